@@ -1,0 +1,110 @@
+#!/usr/bin/env python3
+"""Runs the built program on made inputs, and prints wall time and peak memory. Tests nothing but the answers.
+
+usage: bench/run.py [PROGRAM]      (PROGRAM is crates/mdl_cli/out/mdl_cli where it isn't given)
+"""
+
+import os
+import sys
+import tempfile
+import time
+
+TOP = os.path.dirname(os.path.dirname(os.path.abspath(__file__)))
+PROGRAM = os.path.join(TOP, "crates", "mdl_cli", "out", "mdl_cli")
+FIRST_TEXT = os.path.join(TOP, "examples", "first", "m.mdl")
+MB = 1 << 20
+SIZES = (MB, 4 * MB)
+RUNS = 5
+PIECE = 1 << 16
+
+# Exit numbers of the program.
+DONE = 0
+REFUSED = 1
+
+
+def fill(file, byte, count):
+    """Writes a byte so often, in pieces: the size of this process is the floor of each peak."""
+    while count > 0:
+        piece = min(count, PIECE)
+        file.write(byte * piece)
+        count -= piece
+
+
+def make(path, before, byte, after, size):
+    """A file of this size: `byte` fills the place between what stands before and after."""
+    with open(path, "wb") as file:
+        file.write(before)
+        fill(file, byte, size - len(before) - len(after))
+        file.write(after)
+
+
+def inputs(text):
+    """For each input its name, what stands before and after the filling, the filling, and the exit number."""
+    end_of_real = text.index(b"color(1.0") + len(b"color(1.0")
+    return (
+        ("separators at the end", text, b" ", b"", DONE),
+        ("separators in front", b"", b"\n", text, DONE),
+        ("a long real", text[:end_of_real], b"0", text[end_of_real:], DONE),
+        ("a single name", b"", b"m", b"", REFUSED),
+        ("marks alone", b"", b"(", b"", REFUSED),
+    )
+
+
+def run_once(argv, out):
+    """The exit number, the wall time in seconds and the peak memory in bytes of one run."""
+    start = time.perf_counter()
+    pid = os.posix_spawn(argv[0], argv, os.environ, file_actions=[
+        (os.POSIX_SPAWN_DUP2, out, 1),
+        (os.POSIX_SPAWN_DUP2, out, 2),
+    ])
+    _, status, usage = os.wait4(pid, 0)
+    return os.waitstatus_to_exitcode(status), time.perf_counter() - start, usage.ru_maxrss * 1024
+
+
+def best(argv, out):
+    """The exit number, the least time and the least peak of some runs."""
+    runs = [run_once(argv, out) for _ in range(RUNS)]
+    numbers = {number for number, _, _ in runs}
+    number = numbers.pop() if len(numbers) == 1 else None
+    return number, min(run[1] for run in runs), min(run[2] for run in runs)
+
+
+def show(name, size, measured, growth=""):
+    number, seconds, peak = measured
+    print(f"{name:24} {size:>9} {number!s:>6} {seconds * 1000:>10.2f} {peak / MB:>9.1f}  {growth}")
+
+
+def main():
+    program = os.path.abspath(sys.argv[1]) if len(sys.argv) > 1 else PROGRAM
+    if not os.access(program, os.X_OK):
+        sys.exit(f"{program} isn't there: build it by './mdl instance examples/first ::m::m'")
+    with open(FIRST_TEXT, "rb") as file:
+        text = file.read()
+    wrong = []
+    with tempfile.TemporaryDirectory(prefix="mdl-bench-") as root, open(os.devnull, "wb") as nothing:
+        out = nothing.fileno()
+        path = os.path.join(root, "m.mdl")
+        argv = [program, "instance", root, "::m::m"]
+        print(f"{'input':24} {'bytes':>9} {'status':>6} {'ms':>10} {'peak MB':>9}  (best of {RUNS} runs)")
+        show("/bin/true (the floor)", 0, best(["/bin/true"], out))
+        make(path, text, b"", b"", len(text))
+        measured = best(argv, out)
+        show("the first text", len(text), measured)
+        if measured[0] != DONE:
+            wrong.append("the first text")
+        for name, before, byte, after, wanted in inputs(text):
+            times = []
+            for size in SIZES:
+                make(path, before, byte, after, size)
+                measured = best(argv, out)
+                times.append(measured[1])
+                growth = f"{times[-1] / times[0]:.1f} times the time of 1 MB" if len(times) > 1 else ""
+                show(name, size, measured, growth)
+                if measured[0] != wanted:
+                    wrong.append(f"{name}, {size} bytes")
+    if wrong:
+        sys.exit("other exit numbers than wanted: " + "; ".join(wrong))
+
+
+if __name__ == "__main__":
+    main()

@@ -1,0 +1,3 @@
+pub mod Store
+pub mod Unfolding
+pub mod StoreLaws

@@ -1,0 +1,10 @@
+use Rattle.mdl_cli.proofs.OutcomeLaws.{answer_is_one, no_refusal, refusal_is_one, outcome_stands}
+use Rattle.mdl_cli.proofs.run.one_outcome.Goals as goal
+
+pub returns : goal.returns
+returns c = λ words files. record {
+  stands = outcome_stands words files;
+  one_answer = answer_is_one words files;
+  one_refusal = refusal_is_one words files;
+  not_both = no_refusal words files;
+}

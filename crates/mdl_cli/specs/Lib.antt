@@ -1,0 +1,11 @@
+pub mod Names
+pub mod Request
+pub mod Words
+pub mod FirstText
+pub mod GraphText
+pub mod Lines
+pub mod Outcome
+pub mod OneOutcome
+pub mod Headline
+pub mod ExitNumbers
+pub mod inside

@@ -1,0 +1,9 @@
+pub mod Asked
+pub mod Asking
+pub mod Delivery
+pub mod Gives
+pub mod GraphLines
+pub mod Reading
+pub mod Rows
+pub mod Trees
+pub mod Views

@@ -1,0 +1,284 @@
+use crate::run::{one_outcome, run};
+use crate::status::Status;
+use io_edge::{MemorySink, MemorySource, NoGate, SteadySink, SteadySource};
+use std::alloc::Global;
+use std::test::Fail;
+
+const FIRST: &str = "mdl 1.6;
+export material m() = material(
+    false,
+    material_surface(bsdf(), material_emission(edf(), color(0.0), intensity_radiant_exitance)),
+    material_surface(bsdf(), material_emission(edf(), color(0.0), intensity_radiant_exitance)),
+    color(1.0),
+    material_volume(vdf(), color(0.0), color(0.0)),
+    material_geometry(float3(0.0), 1.0, state_normal()),
+    hair_bsdf());
+";
+
+const GRAPH: &str = "mdlgraph 1
+instance ::m::m
+nodes 17
+0 - bool false
+1 - bsdf()
+2 - edf()
+3 - float 0.0
+4 3 color(float)
+5 - enum intensity_mode intensity_radiant_exitance
+6 2,4,5 material_emission(edf,color,intensity_mode)
+7 1,6 material_surface(bsdf,material_emission)
+8 - float 1.0
+9 8 color(float)
+10 - vdf()
+11 10,4,4 material_volume(vdf,color,color)
+12 3 float3(float)
+13 - state_normal():~float3
+14 12,8,13 material_geometry(float3,float,float3)
+15 - hair_bsdf()
+16 0,7,7,9,11,14,15 material(!bool,material_surface,material_surface,!color,material_volume,material_geometry,hair_bsdf)
+end
+";
+
+fn file(alloc: Global, text: &str) -> Result<Vec<(String, Vec<u8>)>, Fail> {
+    let path = String::from_str(alloc, "r/m.mdl")?;
+    let bytes = Vec::from_slice(alloc, text.as_bytes())?;
+    let mut files = Vec::new(alloc);
+    files.push((path, bytes))?;
+    Ok(files)
+}
+
+fn words(alloc: Global, list: &[&str]) -> Result<Vec<String>, Fail> {
+    let mut words = Vec::new(alloc);
+    for word in list {
+        words.push(String::from_str(alloc, word)?)?;
+    }
+    Ok(words)
+}
+
+#[test]
+fn answers_and_refusals(rt: HostRuntime) -> Result<(), Fail> {
+    let alloc = rt.alloc();
+    let own = ["instance", "r", "::m::m"];
+    let cases: [(&[&str], &str, Status, &str, &str); 12] = [
+        (&own, FIRST, Status::Done, GRAPH, ""),
+        (&own, "mdl 1.60;", Status::Refused, "", "error 9 NotBuilt\n"),
+        (&own, "", Status::Refused, "", "error 9 NotBuilt\n"),
+        (
+            &["instance", "r", "::m::n"],
+            FIRST,
+            Status::Refused,
+            "",
+            "error 9 NotBuilt\n",
+        ),
+        (
+            &["instance", "r", "::n::m"],
+            FIRST,
+            Status::Refused,
+            "",
+            "error 10 Absent ::n\n",
+        ),
+        (
+            &["instance", "-", "::a::m::m"],
+            FIRST,
+            Status::Refused,
+            "",
+            "error 10 Absent ::a::m\n",
+        ),
+        (
+            &["instance", "r", "::m"],
+            FIRST,
+            Status::Usage,
+            "",
+            "error 1 Usage\n",
+        ),
+        (
+            &["instance", "r", "::m::bsdf"],
+            FIRST,
+            Status::Usage,
+            "",
+            "error 1 Usage\n",
+        ),
+        (
+            &["instance", "r:s", "::m::m"],
+            FIRST,
+            Status::Usage,
+            "",
+            "error 1 Usage\n",
+        ),
+        (
+            &["instance", "r", "::m::m", "--workers", "0"],
+            FIRST,
+            Status::Usage,
+            "",
+            "error 1 Usage\n",
+        ),
+        (
+            &["check", "r", "::m"],
+            FIRST,
+            Status::Usage,
+            "",
+            "error 1 Usage\n",
+        ),
+        (&[], FIRST, Status::Usage, "", "error 1 Usage\n"),
+    ];
+    for (list, text, status, graph, line) in cases {
+        let words = words(alloc, list)?;
+        let mut source = SteadySource::new(file(alloc, text)?);
+        let mut out = SteadySink::new(alloc, 4096)?;
+        let mut diag = SteadySink::new(alloc, 64)?;
+        let got = run(
+            &rt,
+            alloc,
+            &words,
+            &mut source,
+            &mut out,
+            &mut diag,
+            &NoGate,
+        );
+        assert_eq!(rt; got, status, "{line}");
+        assert_eq!(rt; out.taken(), graph.as_bytes());
+        assert_eq!(rt; diag.taken(), line.as_bytes());
+    }
+    one_outcome();
+    Ok(())
+}
+
+#[test]
+fn long_files(rt: HostRuntime) -> Result<(), Fail> {
+    let alloc = rt.alloc();
+    for (more, status, line) in [
+        (0, Status::Done, ""),
+        (1, Status::Refused, "error 11 TooLong ::m\n"),
+    ] {
+        let words = words(alloc, &["instance", "r", "::m::m"])?;
+        let mut bytes = vec![in alloc; b' '; 4_194_304 + more]?;
+        let text = FIRST.as_bytes();
+        for i in 0..text.len() {
+            bytes[i] = text[i];
+        }
+        let path = String::from_str(alloc, "r/m.mdl")?;
+        let mut files = Vec::new(alloc);
+        files.push((path, bytes))?;
+        let mut source = SteadySource::new(files);
+        let mut out = SteadySink::new(alloc, 4096)?;
+        let mut diag = SteadySink::new(alloc, 64)?;
+        let got = run(
+            &rt,
+            alloc,
+            &words,
+            &mut source,
+            &mut out,
+            &mut diag,
+            &NoGate,
+        );
+        assert_eq!(rt; got, status);
+        assert_eq!(rt; diag.taken(), line.as_bytes());
+    }
+    Ok(())
+}
+
+#[test]
+fn a_read_that_fails(rt: HostRuntime) -> Result<(), Fail> {
+    let alloc = rt.alloc();
+    let words = words(alloc, &["instance", "r", "::m::m"])?;
+    let mut source = MemorySource::new(file(alloc, FIRST)?, vec![in alloc; 0]?);
+    let mut out = SteadySink::new(alloc, 4096)?;
+    let mut diag = SteadySink::new(alloc, 64)?;
+    let first = run(
+        &rt,
+        alloc,
+        &words,
+        &mut source,
+        &mut out,
+        &mut diag,
+        &NoGate,
+    );
+    assert_eq!(rt; first, Status::ReadFault);
+    assert_eq!(rt; diag.taken(), b"error 2 ReadFault\n".as_slice());
+    assert_eq!(rt; out.taken(), b"".as_slice());
+    let second = run(
+        &rt,
+        alloc,
+        &words,
+        &mut source,
+        &mut out,
+        &mut diag,
+        &NoGate,
+    );
+    assert_eq!(rt; second, Status::Done);
+    assert_eq!(rt; out.taken(), GRAPH.as_bytes());
+    Ok(())
+}
+
+// The graph's text has 577 bytes, so that six writes of at most 100 bytes take it.
+#[test]
+fn writes_that_fail(rt: HostRuntime) -> Result<(), Fail> {
+    let alloc = rt.alloc();
+    let graph = GRAPH.as_bytes();
+    for k in 0..7u64 {
+        let words = words(alloc, &["instance", "r", "::m::m"])?;
+        let mut source = SteadySource::new(file(alloc, FIRST)?);
+        let mut out = MemorySink::new(alloc, 4096, 100, vec![in alloc; k]?)?;
+        let mut diag = SteadySink::new(alloc, 64)?;
+        let got = run(
+            &rt,
+            alloc,
+            &words,
+            &mut source,
+            &mut out,
+            &mut diag,
+            &NoGate,
+        );
+        let gone = (k as usize * 100).min(graph.len());
+        assert_eq!(rt; out.taken(), &graph[..gone]);
+        if k < 6 {
+            assert_eq!(rt; got, Status::WriteFault);
+            assert_eq!(rt; diag.taken(), b"error 3 WriteFault\n".as_slice());
+        } else {
+            assert_eq!(rt; got, Status::Done);
+            assert_eq!(rt; diag.taken(), b"".as_slice());
+        }
+    }
+    Ok(())
+}
+
+#[test]
+fn room_that_runs_out(rt: HostRuntime) -> Result<(), Fail> {
+    let alloc = rt.alloc();
+    let graph = GRAPH.as_bytes();
+    for (room, line_room) in [(0, 64), (1, 64), (576, 64), (576, 5)] {
+        let words = words(alloc, &["instance", "r", "::m::m"])?;
+        let mut source = SteadySource::new(file(alloc, FIRST)?);
+        let mut out = SteadySink::new(alloc, room)?;
+        let mut diag = SteadySink::new(alloc, line_room)?;
+        let got = run(
+            &rt,
+            alloc,
+            &words,
+            &mut source,
+            &mut out,
+            &mut diag,
+            &NoGate,
+        );
+        assert_eq!(rt; got, Status::WriteFault);
+        assert!(rt; room <= graph.len());
+        assert_eq!(rt; out.taken(), &graph[..room]);
+        let line = b"error 3 WriteFault\n";
+        assert_eq!(rt; diag.taken(), &line[..line_room.min(line.len())]);
+    }
+    let words = words(alloc, &[])?;
+    let mut source = SteadySource::new(file(alloc, FIRST)?);
+    let mut out = SteadySink::new(alloc, 0)?;
+    let mut diag = MemorySink::new(alloc, 64, 100, vec![in alloc; 0]?)?;
+    let got = run(
+        &rt,
+        alloc,
+        &words,
+        &mut source,
+        &mut out,
+        &mut diag,
+        &NoGate,
+    );
+    assert_eq!(rt; got, Status::WriteFault);
+    assert_eq!(rt; diag.taken(), b"".as_slice());
+    Ok(())
+}
