@@ -1,4 +1,6 @@
 pub mod Counts
 pub mod Lists
+pub mod Rows
+pub mod Tables
 pub mod ListLaws
 pub mod formers

@@ -1,17 +1,19 @@
-//! Texts and lists that contracts see as the list of their elements.
+//! Texts and lists that contracts see as the list of their elements, and tables of names.
 #![tactic(auto)]
 
 mod out_of_memory;
 mod seq;
+mod table;
 mod text;
 
 pub use out_of_memory::OutOfMemory;
 pub use seq::Seq;
+pub use table::{NotAscending, Row, Table};
 pub use text::Text;
 
 #[cfg(test)]
 mod tests {
-    use super::{Seq, Text};
+    use super::{NotAscending, Row, Seq, Table, Text};
     use std::cmp::Ordering;
     use std::hash::{DefaultHasher, Hash, Hasher};
     use std::test::Fail;
@@ -56,6 +58,104 @@ mod tests {
         assert!(rt; later.partial_cmp(&made) == Some(Ordering::Greater));
         assert!(rt; hash_of(&made) != hash_of(&later));
         Ok(())
+    }
+
+    #[test]
+    fn tables_have_the_values_of_their_rows(rt: HostRuntime) {
+        let found = Table::new(&[
+            Row { name: "", value: 7 },
+            Row {
+                name: "B",
+                value: 3,
+            },
+            Row {
+                name: "a",
+                value: 9,
+            },
+            Row {
+                name: "ab",
+                value: 3,
+            },
+            Row {
+                name: "é",
+                value: 0,
+            },
+        ]);
+        let table = match found {
+            Ok(table) => table,
+            Err(_) => panic!(rt; "the names ascend"),
+        };
+        let cases: [(&str, Option<u16>); 8] = [
+            ("", Some(7)),
+            ("B", Some(3)),
+            ("a", Some(9)),
+            ("ab", Some(3)),
+            ("é", Some(0)),
+            ("b", None),
+            ("A", None),
+            ("abc", None),
+        ];
+        for (name, value) in cases {
+            assert_eq!(rt; table.find(name.as_bytes()), value);
+        }
+    }
+
+    #[test]
+    fn tables_refuse_the_first_name_out_of_order(rt: HostRuntime) {
+        let cases: [(&'static [Row], Option<usize>); 4] = [
+            (&[], None),
+            (
+                &[
+                    Row {
+                        name: "b",
+                        value: 0,
+                    },
+                    Row {
+                        name: "a",
+                        value: 1,
+                    },
+                ],
+                Some(1),
+            ),
+            (
+                &[
+                    Row {
+                        name: "a",
+                        value: 0,
+                    },
+                    Row {
+                        name: "a",
+                        value: 0,
+                    },
+                ],
+                Some(1),
+            ),
+            (
+                &[
+                    Row {
+                        name: "a",
+                        value: 0,
+                    },
+                    Row {
+                        name: "c",
+                        value: 1,
+                    },
+                    Row {
+                        name: "b",
+                        value: 2,
+                    },
+                    Row {
+                        name: "a",
+                        value: 3,
+                    },
+                ],
+                Some(2),
+            ),
+        ];
+        for (rows, at) in cases {
+            let refused = Table::new(rows).err();
+            assert_eq!(rt; refused, at.map(|at| NotAscending { at }));
+        }
     }
 
     #[test]

@@ -1,6 +1,6 @@
 use crate::{
-    FileSource, MemorySink, MemorySource, Read, Sink, Source, StdSink, SteadySink, SteadySource,
-    WriteFault, Wrote, write_whole,
+    FileSource, MemorySink, MemorySource, Place, Read, Sink, Source, StdSink, SteadySink,
+    SteadySource, WriteFault, Wrote, place_of, write_whole,
 };
 use std::alloc::{AllocError, Global};
 use std::fs;
@@ -117,4 +117,30 @@ fn writes_to_streams(rt: HostRuntime) -> Result<(), Fail> {
     let mut errors = StdSink::new(rt.stderr());
     assert_eq!(rt; errors.write(b""), Wrote::Took(0));
     Ok(())
+}
+
+// The place of the end of a text.
+fn end_of(text: &str) -> Option<Place> {
+    if text.len() > 4_194_304 {
+        return None;
+    }
+    Some(place_of(text.as_bytes(), text.len()))
+}
+
+#[test]
+fn places_are_lines_and_columns(rt: HostRuntime) {
+    let cases: [(&str, u32, u32); 9] = [
+        ("", 1, 1),
+        ("\u{feff}", 1, 2),
+        ("\u{feff}ab", 1, 4),
+        ("ab\n", 2, 1),
+        ("ab\né", 2, 2),
+        ("ab\né\u{10348}", 2, 3),
+        ("ab\né\u{10348}c\r", 2, 5),
+        ("ab\né\u{10348}c\r\n", 3, 1),
+        ("ab\r\n\n", 3, 1),
+    ];
+    for (text, line, column) in cases {
+        assert_eq!(rt; end_of(text), Some(Place { line, column }));
+    }
 }
