@@ -1,5 +1,6 @@
 -- What `position` tells of a list.
-use Rattle.std.proofs.Common.{◌≡◌, ℕ, suc, ◌+◌, ◌<◌, ◌≤◌, not, Bool, true, false, cond, ltb, Option, Some, None, List, [], ◌∷◌, length, refl, sym, subst, arith}
+use Rattle.std.proofs.Common.{◌≡◌, ℕ, suc, ◌+◌, ◌<◌, ◌≤◌, not, Bool, true, false, cond, ltb, Option}
+use Rattle.std.proofs.Common.{Some, None, List, [], ◌∷◌, length, refl, sym, subst, arith}
 use Rattle.std.specs.Option.{IfSome, IfNone}
 use Rattle.std.specs.List.{list_any, slice_get, position_or_len}
 use Rattle.std.proofs.lemmas.Bool.{cond_both, ltb-true, ltb-false, or_from, not-true, not-false}
@@ -12,7 +13,8 @@ passes : {A : Type 0} (test : A → Bool) (xs : List A) → position_or_len test
     → StandsAt test xs (position_or_len test xs)
 passes test [] h = absurd (omega arith)
 passes test (x ∷ xs) h =
-    cond_both (not (test x)) (1 + position_or_len test xs) 0 (λ k. k < length (x ∷ xs) → StandsAt test (x ∷ xs) k)
+    cond_both (not (test x)) (1 + position_or_len test xs) 0
+    (λ k. k < length (x ∷ xs) → StandsAt test (x ∷ xs) k)
     (λ failed within.
     let next : suc (position_or_len test xs) ≡ 1 + position_or_len test xs = omega arith in
     subst (StandsAt test (x ∷ xs)) next (passes test xs (omega arith)))
@@ -23,12 +25,15 @@ none_passes : {A : Type 0} (test : A → Bool) (xs : List A) → length xs ≤ p
     → list_any test xs ≡ false
 none_passes test [] h = refl
 none_passes test (x ∷ xs) h =
-    cond_both (not (test x)) (1 + position_or_len test xs) 0 (λ k. length (x ∷ xs) ≤ k → list_any test (x ∷ xs) ≡ false)
-    (λ failed past. or_from (test x) (list_any test xs) (not-true (test x) failed) (none_passes test xs (omega arith)))
+    cond_both (not (test x)) (1 + position_or_len test xs) 0
+    (λ k. length (x ∷ xs) ≤ k → list_any test (x ∷ xs) ≡ false)
+    (λ failed past. or_from (test x) (list_any test xs) (not-true (test x) failed)
+    (none_passes test xs (omega arith)))
     (λ passed past. absurd (omega arith)) h
 
 abbrev pub IsPosition : {A : Type 0} → (A → Bool) → List A → Option ℕ → Type 0
-IsPosition test xs r = r ≡ cond (ltb (position_or_len test xs) (length xs)) (Some (position_or_len test xs)) None
+IsPosition test xs r =
+    r ≡ cond (ltb (position_or_len test xs) (length xs)) (Some (position_or_len test xs)) None
 
 -- a place that was found has a member that passes
 pub IfSome-position : {A : Type 0} (test : A → Bool) (xs : List A) (r : Option ℕ)

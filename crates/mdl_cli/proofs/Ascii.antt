@@ -1,5 +1,6 @@
 -- Reals and identifiers are ASCII.
-use Rattle.std.proofs.Common.{◌≡◌, ℕ, zero, suc, ◌<◌, Bool, true, not, List, [], ◌∷◌, ◌++◌, Some, subst, sym, arith}
+use Rattle.std.proofs.Common.{◌≡◌, ℕ, zero, suc, ◌<◌, Bool, true, not, List, [], ◌∷◌, ◌++◌, Some, subst}
+use Rattle.std.proofs.Common.{sym, arith}
 use Rattle.std.specs.Str.{IsAscii}
 use Rattle.std.specs.List.{list_all}
 use Rattle.std.proofs.lemmas.Bool.{and_parts}
@@ -15,13 +16,16 @@ ascii-cons x xs small ascii (suc i) = ascii i
 
 ascii-append : (xs ys : List ℕ) → IsAscii xs → IsAscii ys → IsAscii (xs ++ ys)
 ascii-append [] ys first last = last
-ascii-append (x ∷ xs) ys first last = ascii-cons x (xs ++ ys) (first 0) (ascii-append xs ys (λ i. first (suc i)) last)
+ascii-append (x ∷ xs) ys first last =
+    ascii-cons x (xs ++ ys) (first 0) (ascii-append xs ys (λ i. first (suc i)) last)
 
 -- bytes that pass a test of ASCII bytes
-ascii-all : (p : ℕ → Bool) → ((b : ℕ) → p b ≡ true → b < 128) → (xs : List ℕ) → list_all p xs ≡ true → IsAscii xs
+ascii-all : (p : ℕ → Bool) → ((b : ℕ) → p b ≡ true → b < 128) → (xs : List ℕ) → list_all p xs ≡ true →
+    IsAscii xs
 ascii-all p small [] h = λ i. omega arith
 ascii-all p small (x ∷ xs) h =
-    ascii-cons x xs (small x (and_parts (p x) (list_all p xs) h).0) (ascii-all p small xs (and_parts (p x) (list_all p xs) h).1)
+    ascii-cons x xs (small x (and_parts (p x) (list_all p xs) h).0)
+    (ascii-all p small xs (and_parts (p x) (list_all p xs) h).1)
 
 digit-ascii : (b : ℕ) → is_digit b ≡ true → b < 128
 digit-ascii b h = grind (arith, nat_tests)

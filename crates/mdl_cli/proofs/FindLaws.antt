@@ -1,5 +1,6 @@
 -- From what is found in a file to what is found for the words.
-use Rattle.std.proofs.Common.{◌≡◌, ◌≢◌, ℕ, ◌+◌, ◌<◌, ◌≤◌, true, false, List, [], ◌∷◌, Option, Some, None, length, refl, sym, ap, ◌∙◌, subst, inl, inr, arith}
+use Rattle.std.proofs.Common.{◌≡◌, ◌≢◌, ℕ, ◌+◌, ◌<◌, ◌≤◌, true, false, List, [], ◌∷◌, Option, Some}
+use Rattle.std.proofs.Common.{None, length, refl, sym, ap, ◌∙◌, subst, inl, inr, arith}
 use Rattle.std.specs.Prelude.{IfSome, replicate}
 use Rattle.std.specs.Str.{bytes_eq}
 use Rattle.std.specs.Cmp.Lexicographic.{bytes_decides}
@@ -29,16 +30,20 @@ record Held (source : SourceState) (path : List ℕ) (file : Option (List ℕ)) 
 one_file : (path bytes : List ℕ) → file_at ((path, bytes) ∷ []) path ≡ Some bytes
 one_file path bytes = cond-true (bytes_eq path path) (Some bytes) None ((bytes_decides path path).1 refl)
 
-held_by : (told : Option (List File)) (path : List ℕ) (file : Option (List ℕ)) (own : List File) → file_at own path ≡ file → IfSome told (λ files. file_at files path ≡ file) → (files : List File) × (IfSome told (λ held. held ≡ files) × (file_at files path ≡ file))
+held_by : (told : Option (List File)) (path : List ℕ) (file : Option (List ℕ)) (own : List File) →
+    file_at own path ≡ file → IfSome told (λ files. file_at files path ≡ file) →
+    (files : List File) × (IfSome told (λ held. held ≡ files) × (file_at files path ≡ file))
 held_by None path file own there told = (own, (tt, there))
 held_by (Some files) path file own there told = (files, (refl, told))
 
-held_found : (source : SourceState) (path bytes : List ℕ) → IfSome source.files (λ files. file_at files path ≡ Some bytes) → Held source path (Some bytes)
+held_found : (source : SourceState) (path bytes : List ℕ) →
+    IfSome source.files (λ files. file_at files path ≡ Some bytes) → Held source path (Some bytes)
 held_found source path bytes told =
     let h = held_by source.files path (Some bytes) ((path, bytes) ∷ []) (one_file path bytes) told in
     record { files = h.0; held = h.1.0; there = h.1.1 }
 
-held_absent : (source : SourceState) (path : List ℕ) → IfSome source.files (λ files. file_at files path ≡ None) → Held source path None
+held_absent : (source : SourceState) (path : List ℕ) →
+    IfSome source.files (λ files. file_at files path ≡ None) → Held source path None
 held_absent source path told =
     let h = held_by source.files path None [] refl told in
     record { files = h.0; held = h.1.0; there = h.1.1 }
@@ -50,36 +55,56 @@ Longer most file = (bytes : List ℕ) × (file ≡ Some bytes) × (most < length
 long_file : (most : ℕ) → (bytes : List ℕ) × (most < length bytes)
 long_file most = (replicate (most + 1) 0, omega (arith, length-replicate {A = ℕ} (most + 1) 0))
 
-held_long : (told : Option (List File)) (path : List ℕ) (most : ℕ) → IfSome told (λ files. (bytes : List ℕ) × (file_at files path ≡ Some bytes) × (most < length bytes)) → (files : List File) × (IfSome told (λ held. held ≡ files) × ((bytes : List ℕ) × (file_at files path ≡ Some bytes) × (most < length bytes)))
+held_long : (told : Option (List File)) (path : List ℕ) (most : ℕ) →
+    IfSome told (λ files. (bytes : List ℕ) × (file_at files path ≡ Some bytes)
+    × (most < length bytes)) → (files : List File)
+    × (IfSome told (λ held. held ≡ files)
+    × ((bytes : List ℕ) × (file_at files path ≡ Some bytes) × (most < length bytes)))
 held_long None path most told =
     let long = long_file most in
     ((path, long.0) ∷ [], (tt, (long.0, one_file path long.0, long.1)))
 held_long (Some files) path most told = (files, (refl, told))
 
 -- what is found in the file is found for the request
-in_file : (request : Request) (source after : SourceState) (bytes : List ℕ) (answer : Answer) → Held source (path_of request) (Some bytes) → length bytes ≤ most_module → FindsIn request bytes answer → FindsAt request source after answer
+in_file : (request : Request) (source after : SourceState) (bytes : List ℕ) (answer : Answer) →
+    Held source (path_of request) (Some bytes) → length bytes ≤ most_module →
+    FindsIn request bytes answer → FindsAt request source after answer
 in_file request source after bytes (answer.Text text) h short found = record {
   files = h.files;
   held = h.held;
-  answers = record { bytes = bytes; found = h.there; short = short; term = found.0; first = found.1; text_is = found.2 };
+  answers = record {
+    bytes = bytes;
+    found = h.there;
+    short =
+        short;
+    term = found.0;
+    first = found.1;
+    text_is = found.2;
+  };
 }
 in_file request source after bytes answer.NotBuilt h short found = record {
   files = h.files;
   held = h.held;
-  refuses = subst (λ (file : Option (List ℕ)). RefusesRequest request file not_built_line) (sym h.there) (inr (short, found, refl));
+  refuses = subst (λ (file : Option (List ℕ)). RefusesRequest request file not_built_line) (sym h.there)
+      (inr (short, found, refl));
 }
 in_file request source after bytes answer.OutOfMemory h short found = tt
 in_file request source after bytes (answer.Refused line) h short found = absurd found
 in_file request source after bytes answer.Usage h short found = absurd found
 in_file request source after bytes answer.ReadFault h short found = absurd found
 
-pub at_found : (request : Request) (path bytes : List ℕ) (source after : SourceState) (answer : Answer) → path ≡ path_of request → Reads path most_module (read.Found bytes) source after → FindsIn request bytes answer → FindsAt request source after answer
+pub at_found : (request : Request) (path bytes : List ℕ) (source after : SourceState)
+    (answer : Answer) → path ≡ path_of request →
+    Reads path most_module (read.Found bytes) source after → FindsIn request bytes answer →
+    FindsAt request source after answer
 at_found request path bytes source after answer same reads found =
     in_file request source after bytes answer
-    (subst (λ (path : List ℕ). Held source path (Some bytes)) same (held_found source path bytes reads.told)) reads.within found
+    (subst (λ (path : List ℕ). Held source path (Some bytes)) same
+    (held_found source path bytes reads.told)) reads.within found
 
 -- a line is the refusal of the request
-at_line : (request : Request) (source after : SourceState) (line : List ℕ) (answer : Answer) → IsLine line answer → FindsLine request source line → FindsAt request source after answer
+at_line : (request : Request) (source after : SourceState) (line : List ℕ) (answer : Answer) →
+    IsLine line answer → FindsLine request source line → FindsAt request source after answer
 at_line request source after line (answer.Refused own) is stands =
     subst (λ (line : List ℕ). FindsLine request source line) (sym is) stands
 at_line request source after line answer.OutOfMemory is stands = tt
@@ -88,42 +113,73 @@ at_line request source after line answer.NotBuilt is stands = absurd is
 at_line request source after line answer.Usage is stands = absurd is
 at_line request source after line answer.ReadFault is stands = absurd is
 
-pub at_absent : (request : Request) (path : List ℕ) (source after : SourceState) (answer : Answer) → path ≡ path_of request → Reads path most_module read.Absent source after → IsLine (absent_line (module_name request)) answer → FindsAt request source after answer
+pub at_absent : (request : Request) (path : List ℕ) (source after : SourceState) (answer : Answer) →
+    path ≡ path_of request → Reads path most_module read.Absent source after →
+    IsLine (absent_line (module_name request)) answer → FindsAt request source after answer
 at_absent request path source after answer same reads is =
     let h = subst (λ (path : List ℕ). Held source path None) same (held_absent source path reads.told) in
     at_line request source after (absent_line (module_name request)) answer is (record {
       files = h.files;
       held = h.held;
-      refuses = subst (λ (file : Option (List ℕ)). RefusesRequest request file (absent_line (module_name request))) (sym h.there) refl;
+      refuses = subst
+          (λ (file : Option (List ℕ)). RefusesRequest request file (absent_line (module_name request)))
+          (sym h.there) refl;
     })
 
-pub at_too_long : (request : Request) (path : List ℕ) (source after : SourceState) (answer : Answer) → path ≡ path_of request → Reads path most_module read.TooLong source after → IsLine (too_long_line (module_name request)) answer → FindsAt request source after answer
+pub at_too_long : (request : Request) (path : List ℕ) (source after : SourceState) (answer : Answer) →
+    path ≡ path_of request → Reads path most_module read.TooLong source after →
+    IsLine (too_long_line (module_name request)) answer → FindsAt request source after answer
 at_too_long request path source after answer same reads is =
     let h = held_long source.files path most_module reads.told in
     let there : file_at h.0 (path_of request) ≡ Some h.1.1.0 = ap (file_at h.0) (sym same) ∙ h.1.1.1 in
     at_line request source after (too_long_line (module_name request)) answer is (record {
       files = h.0;
       held = h.1.0;
-      refuses = subst (λ (file : Option (List ℕ)). RefusesRequest request file (too_long_line (module_name request))) (sym there) (inl (h.1.1.2, refl));
+      refuses = subst
+          (λ (file : Option (List ℕ)). RefusesRequest request file
+          (too_long_line (module_name request))) (sym there) (inl (h.1.1.2, refl));
     })
 
-cause_of : (words : List (List ℕ)) (request : Request) (source after : SourceState) (answer : Answer) → IsRequest words request → names_command words ≡ true → FindsAt request source after answer → HasCause words source after answer
+cause_of : (words : List (List ℕ)) (request : Request) (source after : SourceState) (answer : Answer) →
+    IsRequest words request → names_command words ≡ true → FindsAt request source after answer →
+    HasCause words source after answer
 cause_of words request source after (answer.Text text) asked named found =
-    record { files = found.files; held = found.held; answer = record { request = request; asked = asked; answers = found.answers } }
+    record {
+      files =
+          found.files;
+      held = found.held;
+      answer =
+          record { request = request; asked = asked; answers = found.answers };
+    }
 cause_of words request source after (answer.Refused line) asked named found =
-    record { files = found.files; held = found.held; refusal = record { request = request; asked = asked; refuses = found.refuses } }
+    record {
+      files =
+          found.files;
+      held = found.held;
+      refusal =
+          record { request = request; asked = asked; refuses = found.refuses };
+    }
 cause_of words request source after answer.NotBuilt asked named found =
-    record { files = found.files; held = found.held; refusal = record { request = request; asked = asked; refuses = found.refuses } }
+    record {
+      files =
+          found.files;
+      held = found.held;
+      refusal =
+          record { request = request; asked = asked; refuses = found.refuses };
+    }
 cause_of words request source after answer.Usage asked named found = absurd found
 cause_of words request source after answer.ReadFault asked named found = found.0
 cause_of words request source after answer.OutOfMemory asked named found = named
 
-never_faulty : (request : Request) (source after : SourceState) (result : Answer) → FindsAt request source after result → source.steady ≡ true → result ≢ answer.ReadFault
+never_faulty : (request : Request) (source after : SourceState) (result : Answer) →
+    FindsAt request source after result → source.steady ≡ true → result ≢ answer.ReadFault
 never_faulty request source after result found steady is =
     (subst (λ (result : Answer). FindsAt request source after result) is found).1 steady
 
 -- what is found for the request is found for the words
-pub finds_asked : (words : List (List ℕ)) (request : Request) (source after : SourceState) (answer : Answer) → names_command words ≡ true → request_in words ≡ Some request → FindsAt request source after answer → Finds words source after answer
+pub finds_asked : (words : List (List ℕ)) (request : Request) (source after : SourceState)
+    (answer : Answer) → names_command words ≡ true → request_in words ≡ Some request →
+    FindsAt request source after answer → Finds words source after answer
 finds_asked words request source after answer named asked found = record {
   cause = cause_of words request source after answer (request_in_sound words request asked) named found;
   steady = never_faulty request source after answer found;
@@ -134,13 +190,15 @@ any_files : (told : Option (List File)) → (files : List File) × IfSome told (
 any_files None = ([], tt)
 any_files (Some files) = (files, refl)
 
-usage_stands : (words : List (List ℕ)) (source : SourceState) → NoRequest words → RefusalLine words source status.Usage usage_line
+usage_stands : (words : List (List ℕ)) (source : SourceState) → NoRequest words →
+    RefusalLine words source status.Usage usage_line
 usage_stands words source none =
     let h = any_files source.files in
     record { files = h.0; held = h.1; refusal = (none, refl) }
 
 -- words that are no request are found to be none
-pub finds_usage : (words : List (List ℕ)) (source after : SourceState) → NoRequest words → Finds words source after answer.Usage
+pub finds_usage : (words : List (List ℕ)) (source after : SourceState) → NoRequest words →
+    Finds words source after answer.Usage
 finds_usage words source after none = record {
   cause = usage_stands words source none;
   steady = λ steady e. absurd cc;
@@ -152,4 +210,5 @@ unnamed_none words unnamed request asked =
     absurd (false≢true (sym unnamed ∙ (ap names_command asked.written ∙ refl)))
 
 pub unread_none : (words : List (List ℕ)) → None ≡ request_in words → NoRequest words
-unread_none words none request asked = absurd (none-some request (none ∙ request_in_complete words request asked))
+unread_none words none request asked =
+    absurd (none-some request (none ∙ request_in_complete words request asked))

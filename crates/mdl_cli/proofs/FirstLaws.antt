@@ -1,5 +1,6 @@
 -- First texts: reading one from its front agrees with what a first text is.
-use Rattle.std.proofs.Common.{◌≡◌, ◌<◌, ℕ, true, false, List, [], ◌∷◌, ◌++◌, Some, None, codes, refl, sym, ap, ◌∙◌, subst, arith, option_and_then}
+use Rattle.std.proofs.Common.{◌≡◌, ◌<◌, ℕ, true, false, List, [], ◌∷◌, ◌++◌, Some, None, codes, refl}
+use Rattle.std.proofs.Common.{sym, ap, ◌∙◌, subst, arith, option_and_then}
 use Rattle.std.specs.List.{list_any, list_all}
 use Rattle.std.specs.Str.{bytes_eq}
 use Rattle.std.proofs.lemmas.Bool.{cond-true}
@@ -9,9 +10,11 @@ use Rattle.type_rules.specs.Terms.{Term, term_type}
 use Rattle.mdl_cli.specs.Names.{is_identifier, prelude_names}
 use Rattle.mdl_cli.specs.Words.{Word, Name, Real, Mark, is_separator, StandsFirst, Stand}
 use Rattle.mdl_cli.specs.FirstText.{IsFirstText, versions, written}
-use Rattle.mdl_cli.specs.inside.Reading.{word_in, behind, version_word, behind_version, behind_head, most_height, term_in, first_in}
+use Rattle.mdl_cli.specs.inside.Reading.{word_in, behind, version_word, behind_version, behind_head}
+use Rattle.mdl_cli.specs.inside.Reading.{most_height, term_in, first_in}
 use Rattle.mdl_cli.proofs.WordLaws.{word_in_sound, word_in_complete, behind_sound, behind_complete}
-use Rattle.mdl_cli.proofs.TermReading.{Stand-split, Stand-join, term_in_sound, term_in_complete, rank, rank-material}
+use Rattle.mdl_cli.proofs.TermReading.{Stand-split, Stand-join, term_in_sound, term_in_complete, rank}
+use Rattle.mdl_cli.proofs.TermReading.{rank-material}
 
 -- a known version stands first
 record VersionStands (text rest : List ℕ) : Type 0 where
@@ -20,11 +23,17 @@ record VersionStands (text rest : List ℕ) : Type 0 where
   stands : StandsFirst (Real version) text rest
 
 -- a version word that stands first is a known version where the rest behind it is read
-version_stands : (w : Word) (text mid rest : List ℕ) → StandsFirst w text mid → version_word (w, mid) ≡ Some rest
+version_stands : (w : Word) (text mid rest : List ℕ) → StandsFirst w text mid →
+    version_word (w, mid) ≡ Some rest
     → VersionStands text rest
 version_stands (Real version) text mid rest h e =
     let parts = cond_some (list_any (bytes_eq version) versions) mid rest e in
-    record { version = version; known = parts.0; stands = subst (λ r. StandsFirst (Real version) text r) parts.1 h }
+    record {
+      version =
+          version;
+      known = parts.0;
+      stands = subst (λ r. StandsFirst (Real version) text r) parts.1 h;
+    }
 version_stands _ text mid rest h e = absurd (none-some rest e)
 
 -- a version behind which the rest is read stands first
@@ -110,7 +119,12 @@ head_complete : (version name text rest : List ℕ) → list_any (bytes_eq versi
     → Stand (top_words version name) text rest → behind_head name text ≡ Some rest
 unfolding behind_head
 head_complete version name text rest known stand =
-    let (a, a_is, (b, b_is, (c, c_is, (d, d_is, (f, f_is, (g, g_is, (h, h_is, (j, j_is, (k, k_is, end))))))))) = stand in
+    let (
+      a,
+      a_is,
+      (b, b_is, (c, c_is, (d, d_is, (f, f_is, (g, g_is, (h, h_is, (j, j_is, (k, k_is, end)))))))),
+    ) =
+    stand in
     ap (option_and_then _) (behind_complete (Name (codes "mdl")) text a a_is)
     ∙ (ap (option_and_then _) (version_complete version a b known b_is)
     ∙ (ap (option_and_then _) (behind_complete (Mark 59) b c c_is)
@@ -122,7 +136,8 @@ head_complete version name text rest known stand =
     ∙ (behind_complete (Mark 61) j k k_is ∙ ap Some end))))))))
 
 -- a text that is read as a first text of a material is one, and the term that is read is its term
-pub first_in_sound : (name bytes : List ℕ) (t : Term) → is_identifier name ≡ true → list_any (bytes_eq name) prelude_names ≡ false
+pub first_in_sound : (name bytes : List ℕ) (t : Term) → is_identifier name ≡ true →
+    list_any (bytes_eq name) prelude_names ≡ false
     → first_in name bytes ≡ Some t → IsFirstText bytes name t
 unfolding first_in
 first_in_sound name bytes t identifier new e =
@@ -142,28 +157,33 @@ first_in_sound name bytes t identifier new e =
       first = term.1.0;
       material = term.1.1;
       end = end;
-      stand = Stand-join (top_words top.version name) (written body.0 ++ Mark 59 ∷ []) bytes head end top.stand words;
+      stand = Stand-join (top_words top.version name) (written body.0 ++ Mark 59 ∷ []) bytes head end
+          top.stand words;
       separators = parts.0;
     }))))
 
 -- a first text of a material is read as one, with its term
-pub first_in_complete : (name bytes : List ℕ) (t : Term) → IsFirstText bytes name t → first_in name bytes ≡ Some t
+pub first_in_complete : (name bytes : List ℕ) (t : Term) → IsFirstText bytes name t →
+    first_in name bytes ≡ Some t
 unfolding first_in
 first_in_complete name bytes t h =
     let top = Stand-split (top_words h.version name) (written t ++ Mark 59 ∷ []) bytes h.end h.stand in
     let body = Stand-split (written t) (Mark 59 ∷ []) top.0 h.end top.2 in
-    let head_is : behind_head name bytes ≡ Some top.0 = head_complete h.version name bytes top.0 h.known_version top.1 in
+    let head_is : behind_head name bytes ≡ Some top.0 =
+    head_complete h.version name bytes top.0 h.known_version top.1 in
     let low : rank (term_type t) < most_height = omega (arith, ap rank h.material, rank-material) in
     let term_is : term_in most_height (plain (codes "material")) top.0 ≡ Some (t, body.0) =
     subst (λ ty. term_in most_height ty top.0 ≡ Some (t, body.0)) h.material
     (term_in_complete most_height t top.0 body.0 h.first low body.1) in
     let end_is : behind (Mark 59) body.0 ≡ Some h.end =
-    subst (λ r. behind (Mark 59) body.0 ≡ Some r) body.2.2 (behind_complete (Mark 59) body.0 body.2.0 body.2.1) in
+    subst (λ r. behind (Mark 59) body.0 ≡ Some r) body.2.2
+    (behind_complete (Mark 59) body.0 body.2.0 body.2.1) in
     ap (option_and_then _) head_is
     ∙ (ap (option_and_then _) term_is
     ∙ (ap (option_and_then _) end_is ∙ cond-true (list_all is_separator h.end) (Some t) None h.separators))
 
 -- a text is a first text of a material with one term at most
-pub first_text_is_one : (name bytes : List ℕ) (t u : Term) → IsFirstText bytes name t → IsFirstText bytes name u → t ≡ u
+pub first_text_is_one : (name bytes : List ℕ) (t u : Term) → IsFirstText bytes name t →
+    IsFirstText bytes name u → t ≡ u
 first_text_is_one name bytes t u h k =
     same_Some t u (sym (first_in_complete name bytes t h) ∙ first_in_complete name bytes u k)

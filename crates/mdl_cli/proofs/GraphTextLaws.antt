@@ -1,10 +1,13 @@
 -- The text of a graph: lines one after another, the places of kids, and tests of texts in parts.
-use Rattle.std.proofs.Common.{◌≡◌, ℕ, suc, ◌+◌, ◌<◌, ◌≤◌, Bool, true, false, Some, List, [], ◌∷◌, ◌++◌, codes, decimal, length, map, take, get_or, slice_get, refl, sym, ap, ◌∙◌, arith}
+use Rattle.std.proofs.Common.{◌≡◌, ℕ, suc, ◌+◌, ◌<◌, ◌≤◌, Bool, true, false, Some, List, [], ◌∷◌, ◌++◌}
+use Rattle.std.proofs.Common.{codes, decimal, length, map, take, get_or, slice_get, refl, sym, ap, ◌∙◌}
+use Rattle.std.proofs.Common.{arith}
 use Rattle.std.specs.Bool.{Decides}
 use Rattle.std.specs.List.{flat_map, AllByRecursion}
 use Rattle.std.specs.Str.{bytes_eq}
 use Rattle.std.proofs.lemmas.Bool.{false_from_ne_true}
-use Rattle.std.proofs.lemmas.List.{append_assoc, append-nil, append_cancel_left, append_cancel_right, take_all, take_more, length-take}
+use Rattle.std.proofs.lemmas.List.{append_assoc, append-nil, append_cancel_left, append_cancel_right}
+use Rattle.std.proofs.lemmas.List.{take_all, take_more, length-take}
 use Rattle.std.proofs.lemmas.Option.{slice_get-get_or, get_or_from_slice_get, slice_get_read}
 use Rattle.std.proofs.lemmas.Slice.Eq.{bytes_eq-Decides}
 use Rattle.case_table.specs.Lists.{firsts}
@@ -96,7 +99,8 @@ lines-push all index (first ∷ terms) term =
     ap (λ text. node_line all index first ++ text) (lines-push all (suc index) terms term)
     ∙ sym (append_assoc (node_line all index first) (node_lines all (suc index) terms)
     (node_line all (suc index + length terms) term))
-    ∙ ap (λ place. (node_line all index first ++ node_lines all (suc index) terms) ++ node_line all place term) place
+    ∙ ap (λ place. (node_line all index first ++ node_lines all (suc index) terms) ++ node_line all
+    place term) place
 
 -- one more line
 pub lines_more : (all : List Term) (text : List ℕ) (i : ℕ) → i < length all

@@ -1,5 +1,6 @@
 -- Each command line over files has one outcome: an answer or a refusal.
-use Rattle.std.proofs.Common.{◌≡◌, ◌⊎◌, ◌<◌, ◌≤◌, ℕ, Bool, true, false, List, [], ◌∷◌, ◌++◌, Option, Some, None, length, refl, sym, ap, ◌∙◌, subst, arith, inl, inr}
+use Rattle.std.proofs.Common.{◌≡◌, ◌⊎◌, ◌<◌, ◌≤◌, ℕ, Bool, true, false, List, [], ◌∷◌, ◌++◌, Option}
+use Rattle.std.proofs.Common.{Some, None, length, refl, sym, ap, ◌∙◌, subst, arith, inl, inr}
 use Rattle.std.specs.List.{list_any, list_all}
 use Rattle.std.specs.Str.{bytes_eq}
 use Rattle.std.proofs.lemmas.Bool.{true≢false, and_parts, cases_lt}
@@ -31,7 +32,8 @@ answers_is_one request file a b h k =
     h.text_is ∙ (ap (instance_text (material_name request)) term ∙ sym k.text_is)
 
 -- a command line over files has one answer at most
-pub answer_is_one : (words : List (List ℕ)) (files : List File) (a b : List ℕ) → Answer words files a → Answer words files b → a ≡ b
+pub answer_is_one : (words : List (List ℕ)) (files : List File) (a b : List ℕ) → Answer words files a →
+    Answer words files b → a ≡ b
 answer_is_one words files a b h k =
     let same : k.request ≡ h.request = request_is_one words k.request h.request k.asked h.asked in
     let answers : AnswersRequest h.request (file_at files (path_of h.request)) b =
@@ -39,7 +41,8 @@ answer_is_one words files a b h k =
     answers_is_one h.request (file_at files (path_of h.request)) a b h.answers answers
 
 -- a request and a file that have an answer aren't refused
-answers_refused : (request : Request) (file : Option (List ℕ)) (text line : List ℕ) → AnswersRequest request file text
+answers_refused : (request : Request) (file : Option (List ℕ)) (text line : List ℕ) →
+    AnswersRequest request file text
     → RefusesRequest request file line → ⊥
 answers_refused request None text line h k = none-some h.bytes h.found
 answers_refused request (Some bytes) text line h (inl long) =
@@ -52,7 +55,8 @@ answers_refused request (Some bytes) text line h (inr other) =
     other.1 h.term (subst (λ b. IsFirstText b request.material h.term) same h.first)
 
 -- a command line over files that has an answer isn't refused
-pub no_refusal : (words : List (List ℕ)) (files : List File) (text : List ℕ) (s : Status) (line : List ℕ) → Answer words files text
+pub no_refusal : (words : List (List ℕ)) (files : List File) (text : List ℕ) (s : Status)
+    (line : List ℕ) → Answer words files text
     → Refusal words files s line → ⊥
 no_refusal words files text status.Usage line h k = k.0 h.request h.asked
 no_refusal words files text status.Refused line h k =
@@ -78,7 +82,8 @@ refuses_is_one request (Some bytes) a b (inr h) (inl k) =
 refuses_is_one request (Some bytes) a b (inr h) (inr k) = h.2 ∙ sym k.2
 
 -- words that are a request are refused with one line at most
-asked_is_one : (words : List (List ℕ)) (files : List File) (a b : List ℕ) → RefusesAsked words files a → RefusesAsked words files b
+asked_is_one : (words : List (List ℕ)) (files : List File) (a b : List ℕ) → RefusesAsked words files a →
+    RefusesAsked words files b
     → a ≡ b
 asked_is_one words files a b h k =
     let same : k.request ≡ h.request = request_is_one words k.request h.request k.asked h.asked in
@@ -87,7 +92,8 @@ asked_is_one words files a b h k =
     refuses_is_one h.request (file_at files (path_of h.request)) a b h.refuses refuses
 
 -- a command line over files is refused with one status and one line at most
-pub refusal_is_one : (words : List (List ℕ)) (files : List File) (s t : Status) (a b : List ℕ) → Refusal words files s a
+pub refusal_is_one : (words : List (List ℕ)) (files : List File) (s t : Status) (a b : List ℕ) →
+    Refusal words files s a
     → Refusal words files t b → (s ≡ t) × (a ≡ b)
 refusal_is_one words files status.Usage status.Usage a b h k = (refl, h.1 ∙ sym k.1)
 refusal_is_one words files status.Usage status.Refused a b h k = absurd (h.0 k.request k.asked)
@@ -100,7 +106,8 @@ refusal_is_one words files _ t a b h k = absurd h
 -- a request and a file have an answer or a refusal
 abbrev RequestOutcome : Request → Option (List ℕ) → Type 0
 RequestOutcome request file =
-    ((text : List ℕ) × AnswersRequest request file text) ⊎ ((line : List ℕ) × RefusesRequest request file line)
+    ((text : List ℕ) × AnswersRequest request file text) ⊎ ((line : List ℕ)
+    × RefusesRequest request file line)
 
 -- a file that isn't a first text of the material is refused
 not_built : (request : Request) (bytes : List ℕ) → length bytes ≤ most_module
@@ -108,13 +115,15 @@ not_built : (request : Request) (bytes : List ℕ) → length bytes ≤ most_mod
 not_built request bytes short none = inr (not_built_line, inr (short, none, refl))
 
 -- a file that isn't too long, by what is read from it and by whether the material's name is new
-short_stands : (request : Request) (bytes : List ℕ) (read : Option Term) (in_use : Bool) → length bytes ≤ most_module
+short_stands : (request : Request) (bytes : List ℕ) (read : Option Term) (in_use : Bool) →
+    length bytes ≤ most_module
     → is_identifier request.material ≡ true → first_in request.material bytes ≡ read
     → list_any (bytes_eq request.material) prelude_names ≡ in_use → RequestOutcome request (Some bytes)
 short_stands request bytes read true short identifier is used =
     not_built request bytes short (λ term first. true≢false (sym used ∙ first.new_name))
 short_stands request bytes None false short identifier is used =
-    not_built request bytes short (λ term first. none-some term (sym is ∙ first_in_complete request.material bytes term first))
+    not_built request bytes short
+    (λ term first. none-some term (sym is ∙ first_in_complete request.material bytes term first))
 short_stands request bytes (Some term) false short identifier is used =
     inl (
       instance_text (material_name request) term,
@@ -137,12 +146,15 @@ file_stands request bytes identifier (inr short) =
     short_stands request bytes (first_in request.material bytes) in_use short identifier refl refl
 
 -- a request has an outcome, by whether its module has a file
-request_stands : (request : Request) (file : Option (List ℕ)) → is_identifier request.material ≡ true → RequestOutcome request file
+request_stands : (request : Request) (file : Option (List ℕ)) → is_identifier request.material ≡ true →
+    RequestOutcome request file
 request_stands request None identifier = inr (absent_line (module_name request), refl)
-request_stands request (Some bytes) identifier = file_stands request bytes identifier (cases_lt most_module (length bytes))
+request_stands request (Some bytes) identifier =
+    file_stands request bytes identifier (cases_lt most_module (length bytes))
 
 -- the material of a request is an identifier
-pub material_identifier : (parts : List (List ℕ)) (material : List ℕ) → list_all is_identifier (parts ++ material ∷ []) ≡ true
+pub material_identifier : (parts : List (List ℕ)) (material : List ℕ) →
+    list_all is_identifier (parts ++ material ∷ []) ≡ true
     → is_identifier material ≡ true
 material_identifier parts material h =
     let both = and_parts (list_all is_identifier parts) (list_all is_identifier (material ∷ []))
@@ -152,25 +164,40 @@ material_identifier parts material h =
 -- a command line over files has an answer or a refusal
 abbrev Outcome : List (List ℕ) → List File → Type 0
 Outcome words files =
-    ((text : List ℕ) × Answer words files text) ⊎ ((s : Status) × ((line : List ℕ) × Refusal words files s line))
+    ((text : List ℕ) × Answer words files text) ⊎ ((s : Status)
+    × ((line : List ℕ) × Refusal words files s line))
 
 -- words that are a request have an outcome where the request and its file have one
 asked_stands : (words : List (List ℕ)) (files : List File) (request : Request) → IsRequest words request
     → RequestOutcome request (file_at files (path_of request)) → Outcome words files
-asked_stands words files request asked (inl h) = inl (h.0, record { request = request; asked = asked; answers = h.1 })
+asked_stands words files request asked (inl h) =
+    inl (h.0, record { request = request; asked = asked; answers = h.1 })
 asked_stands words files request asked (inr h) =
     inr (status.Refused, (h.0, record { request = request; asked = asked; refuses = h.1 }))
 
 -- words have an outcome, by what is read from them
-read_stands : (words : List (List ℕ)) (files : List File) (read : Option Request) → request_in words ≡ read → Outcome words files
+read_stands : (words : List (List ℕ)) (files : List File) (read : Option Request) →
+    request_in words ≡ read → Outcome words files
 read_stands words files None is =
-    inr (status.Usage, (usage_line, (λ request asked. none-some request (sym is ∙ request_in_complete words request asked), refl)))
+    inr (
+      status.Usage,
+      (
+        usage_line,
+        (
+          λ request asked. none-some request
+              (sym is ∙ request_in_complete words request asked),
+          refl,
+        ),
+      ),
+    )
 read_stands words files (Some request) is =
     let asked = request_in_sound words request is in
     asked_stands words files request asked
-    (request_stands request (file_at files (path_of request)) (material_identifier request.parts request.material asked.names))
+    (request_stands request (file_at files (path_of request))
+    (material_identifier request.parts request.material asked.names))
 
 -- each command line over files has an answer or a refusal
 pub outcome_stands : (words : List (List ℕ)) (files : List File)
-    → ((text : List ℕ) × Answer words files text) ⊎ ((s : Status) × ((line : List ℕ) × Refusal words files s line))
+    → ((text : List ℕ) × Answer words files text) ⊎ ((s : Status)
+    × ((line : List ℕ) × Refusal words files s line))
 outcome_stands words files = read_stands words files (request_in words) refl

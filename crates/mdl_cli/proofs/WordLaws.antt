@@ -1,18 +1,27 @@
 -- The first word of a text: reading it from the front agrees with where it stands.
-use Rattle.std.proofs.Common.{◌≡◌, ◌<◌, ◌≤◌, ℕ, suc, ◌+◌, ◌==◌, ◌||◌, ◌&&◌, not, cond, Bool, true, false, List, [], ◌∷◌, ◌++◌, Option, Some, None, length, take, drop, slice_get, refl, sym, ap, ◌∙◌, subst, arith, option_and_then}
+use Rattle.std.proofs.Common.{◌≡◌, ◌<◌, ◌≤◌, ℕ, suc, ◌+◌, ◌==◌, ◌||◌, ◌&&◌, not, cond, Bool, true}
+use Rattle.std.proofs.Common.{false, List, [], ◌∷◌, ◌++◌, Option, Some, None, length, take, drop}
+use Rattle.std.proofs.Common.{slice_get, refl, sym, ap, ◌∙◌, subst, arith, option_and_then}
 use Rattle.std.specs.List.{list_all, prefix_len}
 use Rattle.std.specs.Cmp.Lexicographic.{bytes_decides}
-use Rattle.std.proofs.lemmas.Bool.{and_parts, and_from, not-true, not_from_false, false≢true, eqb-true, eqb-false, eq-eqb, ne_eqb, or_parts, or_left, cond-true, cond-false}
+use Rattle.std.proofs.lemmas.Bool.{and_parts, and_from, not-true, not_from_false, false≢true, eqb-true}
+use Rattle.std.proofs.lemmas.Bool.{eqb-false, eq-eqb, ne_eqb, or_parts, or_left, cond-true, cond-false}
 use Rattle.std.proofs.lemmas.Bool.Decides.{nat_tests}
-use Rattle.std.proofs.lemmas.List.{get_or_at, take-append-drop, take_at, drop_at, drop-drop, drop_more, append_assoc, length-append, length-take-le}
+use Rattle.std.proofs.lemmas.List.{get_or_at, take-append-drop, take_at, drop_at, drop-drop, drop_more}
+use Rattle.std.proofs.lemmas.List.{append_assoc, length-append, length-take-le}
 use Rattle.std.proofs.lemmas.List.Sums.{prefix_len-le-length}
-use Rattle.std.proofs.lemmas.Option.{same_Some, none-some, cond_some, some_pair_parts, get_or_from_slice_get, slice_get_within, slice_get-get_or, option_and_then_some}
+use Rattle.std.proofs.lemmas.Option.{same_Some, none-some, cond_some, some_pair_parts}
+use Rattle.std.proofs.lemmas.Option.{get_or_from_slice_get, slice_get_within, slice_get-get_or}
+use Rattle.std.proofs.lemmas.Option.{option_and_then_some}
 use Rattle.mdl_cli.specs.Names.{is_digit, starts_name, continues_name, is_name}
-use Rattle.mdl_cli.specs.Words.{Word, Name, Real, Mark, word_text, is_separator, is_mark, are_digits, IsReal, IsWord, ends, StandsFirst}
-use Rattle.mdl_cli.specs.inside.Reading.{behind_gap, name_of, stands_at, real_end, real_of, word_of, word_in, same_word, if_same, behind}
+use Rattle.mdl_cli.specs.Words.{Word, Name, Real, Mark, word_text, is_separator, is_mark, are_digits}
+use Rattle.mdl_cli.specs.Words.{IsReal, IsWord, ends, StandsFirst}
+use Rattle.mdl_cli.specs.inside.Reading.{behind_gap, name_of, stands_at, real_end, real_of, word_of}
+use Rattle.mdl_cli.specs.inside.Reading.{word_in, same_word, if_same, behind}
 
 -- a test before something that may fail
-pub cond_then : {A : Type 0} (b : Bool) (o : Option A) (y : A) → cond b o None ≡ Some y → (b ≡ true) × (o ≡ Some y)
+pub cond_then : {A : Type 0} (b : Bool) (o : Option A) (y : A) → cond b o None ≡ Some y →
+    (b ≡ true) × (o ≡ Some y)
 cond_then true o y e = (refl, e)
 cond_then false o y e = absurd (none-some y e)
 
@@ -22,7 +31,8 @@ stops p [] = true
 stops p (x ∷ xs) = not (p x)
 
 -- elements that pass all belong to the longest front that passes
-passing_front : (p : ℕ → Bool) (xs ys : List ℕ) → list_all p xs ≡ true → prefix_len p (xs ++ ys) ≡ length xs + prefix_len p ys
+passing_front : (p : ℕ → Bool) (xs ys : List ℕ) → list_all p xs ≡ true →
+    prefix_len p (xs ++ ys) ≡ length xs + prefix_len p ys
 passing_front p [] ys h = omega arith
 passing_front p (x ∷ xs) ys h =
     let both = and_parts (p x) (list_all p xs) h in
@@ -35,11 +45,13 @@ stopped p [] h = refl
 stopped p (y ∷ ys) h = rw (not-true (p y) h) refl
 
 -- the longest front that passes ends where the elements stop to pass
-pub front_len : (p : ℕ → Bool) (xs ys : List ℕ) → list_all p xs ≡ true → stops p ys ≡ true → prefix_len p (xs ++ ys) ≡ length xs
+pub front_len : (p : ℕ → Bool) (xs ys : List ℕ) → list_all p xs ≡ true → stops p ys ≡ true →
+    prefix_len p (xs ++ ys) ≡ length xs
 front_len p xs ys h s = omega (arith, passing_front p xs ys h, stopped p ys s)
 
 -- the same with one element before it, by its test
-front_passes-step : (p : ℕ → Bool) (x : ℕ) (xs : List ℕ) (b : Bool) → p x ≡ b → list_all p (take (prefix_len p xs) xs) ≡ true
+front_passes-step : (p : ℕ → Bool) (x : ℕ) (xs : List ℕ) (b : Bool) → p x ≡ b →
+    list_all p (take (prefix_len p xs) xs) ≡ true
     → list_all p (take (cond b (1 + prefix_len p xs) 0) (x ∷ xs)) ≡ true
 front_passes-step p x xs true e h =
     let s : 1 + prefix_len p xs ≡ suc (prefix_len p xs) = omega arith in rw s (and_from _ _ e h)
@@ -51,7 +63,8 @@ front_passes p [] = refl
 front_passes p (x ∷ xs) = front_passes-step p x xs (p x) refl (front_passes p xs)
 
 -- the same with one element before it, by its test
-rest_stops-step : (p : ℕ → Bool) (x : ℕ) (xs : List ℕ) (b : Bool) → p x ≡ b → stops p (drop (prefix_len p xs) xs) ≡ true
+rest_stops-step : (p : ℕ → Bool) (x : ℕ) (xs : List ℕ) (b : Bool) → p x ≡ b →
+    stops p (drop (prefix_len p xs) xs) ≡ true
     → stops p (drop (cond b (1 + prefix_len p xs) 0) (x ∷ xs)) ≡ true
 rest_stops-step p x xs true e h =
     let s : 1 + prefix_len p xs ≡ suc (prefix_len p xs) = omega arith in rw s h
@@ -108,7 +121,8 @@ record Splits (word : Word) (text rest : List ℕ) : Type 0 where
   longest : ends word rest ≡ true
 
 -- the same of an equal word and rest
-splits_at : (text : List ℕ) (u v : Word × List ℕ) → Some u ≡ Some v → Splits u.0 text u.1 → Splits v.0 text v.1
+splits_at : (text : List ℕ) (u v : Word × List ℕ) → Some u ≡ Some v → Splits u.0 text u.1 →
+    Splits v.0 text v.1
 splits_at text u v e h = subst (λ (x : Word × List ℕ). Splits x.0 text x.1) (same_Some u v e) h
 
 -- the same by the test of the first byte
@@ -156,7 +170,8 @@ point_at None h = absurd (false≢true h)
 point_at (Some b) h = ap Some (eqb-true b 46 h)
 
 -- a list around the element at a place
-pub cut_at : {X : Type 0} (xs : List X) (n : ℕ) (b : X) → slice_get xs n ≡ Some b → xs ≡ take n xs ++ b ∷ drop (n + 1) xs
+pub cut_at : {X : Type 0} (xs : List X) (n : ℕ) (b : X) → slice_get xs n ≡ Some b →
+    xs ≡ take n xs ++ b ∷ drop (n + 1) xs
 cut_at xs n b e =
     let within : n < length xs = slice_get_within xs n b e in
     let first : drop n xs ≡ b ∷ drop (n + 1) xs =
@@ -172,11 +187,17 @@ longer_front xs ds n k b l e m =
     e ∙ (ap (λ d. take n xs ++ b ∷ d) (sym (take-append-drop k ds))
     ∙ sym (append_assoc (take n xs) (b ∷ take k ds) (drop k ds))) in
     let long : length front ≡ n + 1 + k =
-    omega (arith, length-append (take n xs) (b ∷ take k ds), length-take-le n xs (omega arith), length-take-le k ds m) in
+    omega (
+      arith,
+      length-append (take n xs) (b ∷ take k ds),
+      length-take-le n xs (omega arith),
+      length-take-le k ds m,
+    ) in
     ap (take (n + 1 + k)) whole ∙ take_at front (drop k ds) (n + 1 + k) long
 
 -- digits, a point and the digits behind it
-real_front : (text : List ℕ) (n k : ℕ) → n ≡ prefix_len is_digit text → k ≡ prefix_len is_digit (drop (n + 1) text)
+real_front : (text : List ℕ) (n k : ℕ) → n ≡ prefix_len is_digit text →
+    k ≡ prefix_len is_digit (drop (n + 1) text)
     → slice_get text n ≡ Some 46 → 0 < n → 0 < k → IsReal (take (n + 1 + k) text)
 real_front text n k en ek e some more =
     let tail : List ℕ = drop (n + 1) text in
@@ -231,18 +252,22 @@ word_splits-step : (b : ℕ) (bs : List ℕ) (w : Word) (rest : List ℕ) (m s d
     → cond m (Some (Mark b, bs)) (cond s (name_of (b ∷ bs)) (cond d (real_of (b ∷ bs)) None)) ≡ Some (w, rest)
     → Splits w (b ∷ bs) rest
 word_splits-step b bs w rest true s d m_is s_is d_is e =
-    splits_at (b ∷ bs) (Mark b, bs) (w, rest) e (record { written = refl; is_word = m_is; longest = ends_mark b bs })
+    splits_at (b ∷ bs) (Mark b, bs) (w, rest) e
+    (record { written = refl; is_word = m_is; longest = ends_mark b bs })
 word_splits-step b bs w rest false true d m_is s_is d_is e = name_splits b bs w rest s_is e
-word_splits-step b bs w rest false false true m_is s_is d_is e = real_splits (b ∷ bs) w rest (some_digits b bs d_is) e
+word_splits-step b bs w rest false false true m_is s_is d_is e =
+    real_splits (b ∷ bs) w rest (some_digits b bs d_is) e
 word_splits-step b bs w rest false false false m_is s_is d_is e = absurd (none-some (w, rest) e)
 
 -- a word that is read is the word that the text begins with
 word_splits : (text : List ℕ) (w : Word) (rest : List ℕ) → word_of text ≡ Some (w, rest) → Splits w text rest
 word_splits [] w rest e = absurd (none-some (w, rest) e)
-word_splits (b ∷ bs) w rest e = word_splits-step b bs w rest (is_mark b) (starts_name b) (is_digit b) refl refl refl e
+word_splits (b ∷ bs) w rest e =
+    word_splits-step b bs w rest (is_mark b) (starts_name b) (is_digit b) refl refl refl e
 
 -- what is read as the first word stands first
-pub word_in_sound : (text : List ℕ) (w : Word) (rest : List ℕ) → word_in text ≡ Some (w, rest) → StandsFirst w text rest
+pub word_in_sound : (text : List ℕ) (w : Word) (rest : List ℕ) → word_in text ≡ Some (w, rest) →
+    StandsFirst w text rest
 unfolding word_in
 word_in_sound text w rest e =
     let n = prefix_len is_separator text in
@@ -266,14 +291,22 @@ name_reads b bs rest h e =
     let end : prefix_len continues_name ((b ∷ bs) ++ rest) ≡ length (b ∷ bs) =
     front_len continues_name (b ∷ bs) rest all (sym (ends_name (b ∷ bs) rest) ∙ e) in
     ap (λ n. Some (Name (take n ((b ∷ bs) ++ rest)), drop n ((b ∷ bs) ++ rest))) end
-    ∙ (λ i. Some (Name (take_at (b ∷ bs) rest (length (b ∷ bs)) refl i), drop_at (b ∷ bs) rest (length (b ∷ bs)) refl i))
+    ∙ (λ i. Some (
+      Name (take_at (b ∷ bs) rest (length (b ∷ bs)) refl i),
+      drop_at (b ∷ bs) rest (length (b ∷ bs))
+          refl i,
+    ))
 
 -- how a text is read whose digits end at a point with digits behind it
 real_tested : (text : List ℕ) → stands_at 46 (slice_get text (prefix_len is_digit text)) ≡ true
     → not (real_end (prefix_len is_digit text) text == prefix_len is_digit text + 1) ≡ true
     → ends (Real []) (drop (real_end (prefix_len is_digit text) text) text) ≡ true
     → real_of text
-    ≡ Some (Real (take (real_end (prefix_len is_digit text) text) text), drop (real_end (prefix_len is_digit text) text) text)
+    ≡ Some (
+      Real (take (real_end (prefix_len is_digit text) text) text),
+      drop
+          (real_end (prefix_len is_digit text) text) text,
+    )
 real_tested text p l s =
     let n = prefix_len is_digit text in
     let end = real_end n text in
@@ -281,7 +314,8 @@ real_tested text p l s =
     let longer = not (end == n + 1) in
     let stop = ends (Real []) (drop end text) in
     let found : Option (Word × List ℕ) = Some (Real (take end text), drop end text) in
-    cond-true (point && (longer && stop)) found None (and_from point (longer && stop) p (and_from longer stop l s))
+    cond-true (point && (longer && stop)) found None
+    (and_from point (longer && stop) p (and_from longer stop l s))
 
 -- behind digits and a point
 behind_point : (ds es : List ℕ) → drop (length ds + 1) (ds ++ 46 ∷ es) ≡ es
@@ -293,9 +327,11 @@ real_ended : (text front rest : List ℕ) (end : ℕ) → text ≡ front ++ rest
     → real_of text ≡ Some (Real (take end text), drop end text) → real_of text ≡ Some (Real front, rest)
 real_ended text front rest end text_is end_is read =
     let taken : take end text ≡ front =
-    ap (λ n. take n text) end_is ∙ (ap (take (length front)) text_is ∙ take_at front rest (length front) refl) in
+    ap (λ n. take n text) end_is
+    ∙ (ap (take (length front)) text_is ∙ take_at front rest (length front) refl) in
     let left : drop end text ≡ rest =
-    ap (λ n. drop n text) end_is ∙ (ap (drop (length front)) text_is ∙ drop_at front rest (length front) refl) in
+    ap (λ n. drop n text) end_is
+    ∙ (ap (drop (length front)) text_is ∙ drop_at front rest (length front) refl) in
     read ∙ (λ i. Some (Real (taken i), left i))
 
 -- how a real is read
@@ -307,13 +343,15 @@ real_reads whole fraction rest w f e =
     let front : List ℕ = whole ++ 46 ∷ fraction in
     let text_is : text ≡ front ++ rest = sym (append_assoc whole (46 ∷ fraction) rest) in
     let n = length whole in
-    let n_is : prefix_len is_digit text ≡ n = front_len is_digit whole (46 ∷ (fraction ++ rest)) (digits_all whole w) refl in
+    let n_is : prefix_len is_digit text ≡ n =
+    front_len is_digit whole (46 ∷ (fraction ++ rest)) (digits_all whole w) refl in
     let k_is : prefix_len is_digit (drop (n + 1) text) ≡ length fraction =
     ap (prefix_len is_digit) (behind_point whole (fraction ++ rest))
     ∙ front_len is_digit fraction rest (digits_all fraction f) (real_stops [] rest e) in
     let end : real_end n text ≡ length front =
     omega (arith, k_is, length-append whole (46 ∷ fraction)) in
-    let end_is : real_end (prefix_len is_digit text) text ≡ length front = ap (λ m. real_end m text) n_is ∙ end in
+    let end_is : real_end (prefix_len is_digit text) text ≡ length front =
+    ap (λ m. real_end m text) n_is ∙ end in
     let some : 0 < length fraction = digits_some fraction f in
     let inside : n < length text = omega (arith, length-append whole (46 ∷ (fraction ++ rest))) in
     let byte : slice_get text n ≡ Some 46 =
@@ -321,11 +359,16 @@ real_reads whole fraction rest w f e =
     let point : stands_at 46 (slice_get text (prefix_len is_digit text)) ≡ true =
     ap (λ m. stands_at 46 (slice_get text m)) n_is ∙ ap (stands_at 46) byte in
     let longer : not (real_end (prefix_len is_digit text) text == prefix_len is_digit text + 1) ≡ true =
-    not_from_false _ (ne_eqb _ _ (λ same. absurd (omega (arith, n_is, end_is, length-append whole (46 ∷ fraction))))) in
+    not_from_false _
+    (ne_eqb _ _ (λ same. absurd (omega
+    (arith, n_is, end_is, length-append whole (46 ∷ fraction))))) in
     let left : drop (real_end (prefix_len is_digit text) text) text ≡ rest =
-    ap (λ m. drop m text) end_is ∙ (ap (drop (length front)) text_is ∙ drop_at front rest (length front) refl) in
-    let stop : ends (Real []) (drop (real_end (prefix_len is_digit text) text) text) ≡ true = ap (ends (Real [])) left ∙ e in
-    real_ended text front rest (real_end (prefix_len is_digit text) text) text_is end_is (real_tested text point longer stop)
+    ap (λ m. drop m text) end_is
+    ∙ (ap (drop (length front)) text_is ∙ drop_at front rest (length front) refl) in
+    let stop : ends (Real []) (drop (real_end (prefix_len is_digit text) text) text) ≡ true =
+    ap (ends (Real [])) left ∙ e in
+    real_ended text front rest (real_end (prefix_len is_digit text) text) text_is end_is
+    (real_tested text point longer stop)
 
 -- a word that begins with a digit is read as a real
 digit_first : (b : ℕ) (bs : List ℕ) → is_digit b ≡ true → word_of (b ∷ bs) ≡ real_of (b ∷ bs)
@@ -343,7 +386,8 @@ real_word_reads (d ∷ ds) fraction rest w f e =
     ∙ real_reads (d ∷ ds) fraction rest w f e
 
 -- a word with a text behind it that doesn't go on with it is read as that word
-word_reads : (w : Word) (rest : List ℕ) → IsWord w → ends w rest ≡ true → word_of (word_text w ++ rest) ≡ Some (w, rest)
+word_reads : (w : Word) (rest : List ℕ) → IsWord w → ends w rest ≡ true →
+    word_of (word_text w ++ rest) ≡ Some (w, rest)
 word_reads (Name []) rest h e = absurd (false≢true h)
 word_reads (Name (b ∷ bs)) rest h e =
     let starts = (and_parts (starts_name b) (list_all continues_name bs) h).0 in
@@ -351,7 +395,8 @@ word_reads (Name (b ∷ bs)) rest h e =
     ∙ (cond-true (starts_name b) _ _ starts ∙ name_reads b bs rest h e)
 word_reads (Real text) rest h e =
     let stop : ends (Real []) rest ≡ true = ends_real [] rest ∙ (sym (ends_real text rest) ∙ e) in
-    let around : (whole : List ℕ) (fraction : List ℕ) → (whole ++ 46 ∷ fraction) ++ rest ≡ whole ++ 46 ∷ (fraction ++ rest) =
+    let around : (whole : List ℕ) (fraction : List ℕ) →
+    (whole ++ 46 ∷ fraction) ++ rest ≡ whole ++ 46 ∷ (fraction ++ rest) =
     λ whole fraction. append_assoc whole (46 ∷ fraction) rest in
     subst (λ t. word_of (t ++ rest) ≡ Some (Real t, rest)) (sym h.written)
     (ap word_of (around h.whole h.fraction)
@@ -368,7 +413,8 @@ whole_first (d ∷ ds) rest h =
 word_first : (w : Word) (rest : List ℕ) → IsWord w → stops is_separator (word_text w ++ rest) ≡ true
 word_first (Name []) rest h = absurd (false≢true h)
 word_first (Name (b ∷ bs)) rest h =
-    not_from_false (is_separator b) (name_starts b (and_parts (starts_name b) (list_all continues_name bs) h).0)
+    not_from_false (is_separator b)
+    (name_starts b (and_parts (starts_name b) (list_all continues_name bs) h).0)
 word_first (Real text) rest h =
     subst (λ t. stops is_separator (t ++ rest) ≡ true) (sym h.written)
     (ap (stops is_separator) (append_assoc h.whole (46 ∷ h.fraction) rest)
@@ -376,12 +422,14 @@ word_first (Real text) rest h =
 word_first (Mark b) rest h = not_from_false (is_separator b) (mark_starts b h)
 
 -- the text behind separators and before a word
-gap_skipped : (gap text : List ℕ) → list_all is_separator gap ≡ true → stops is_separator text ≡ true → behind_gap (gap ++ text) ≡ text
+gap_skipped : (gap text : List ℕ) → list_all is_separator gap ≡ true → stops is_separator text ≡ true →
+    behind_gap (gap ++ text) ≡ text
 gap_skipped gap text g s =
     ap (λ n. drop n (gap ++ text)) (front_len is_separator gap text g s) ∙ drop_at gap text (length gap) refl
 
 -- what stands first is read as the first word
-pub word_in_complete : (text : List ℕ) (w : Word) (rest : List ℕ) → StandsFirst w text rest → word_in text ≡ Some (w, rest)
+pub word_in_complete : (text : List ℕ) (w : Word) (rest : List ℕ) → StandsFirst w text rest →
+    word_in text ≡ Some (w, rest)
 unfolding word_in
 word_in_complete text w rest h =
     let skipped : behind_gap (h.gap ++ (word_text w ++ rest)) ≡ word_text w ++ rest =
@@ -389,7 +437,8 @@ word_in_complete text w rest h =
     ap word_of (ap behind_gap h.written ∙ skipped) ∙ word_reads w rest h.is_word h.longest
 
 -- at most one word stands first
-pub first_word_is_one : (text : List ℕ) (v w : Word) (left rest : List ℕ) → StandsFirst v text left → StandsFirst w text rest
+pub first_word_is_one : (text : List ℕ) (v w : Word) (left rest : List ℕ) → StandsFirst v text left →
+    StandsFirst w text rest
     → (v ≡ w) × (left ≡ rest)
 first_word_is_one text v w left rest h k =
     some_pair_parts v w left rest (sym (word_in_complete text v left h) ∙ word_in_complete text w rest k)

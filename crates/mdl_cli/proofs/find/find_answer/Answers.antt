@@ -8,7 +8,8 @@ returns-then-not-names_command g c =
     finds_usage _ _ _ (unnamed_none _ (sym c.names_command.ensures ∙ c.if-not-names_command.true))
 
 pub find_instance-requires : goal.find_instance-requires
-find_instance-requires g c = (request_in_sound _ _ (sym (rw c.in-Ok-Some.field-0-is at c.in-Ok-Some.ensures))).names
+find_instance-requires g c =
+    (request_in_sound _ _ (sym (rw c.in-Ok-Some.field-0-is at c.in-Ok-Some.ensures))).names
 
 pub returns-in-Ok-Some : goal.returns-in-Ok-Some
 returns-in-Ok-Some g c =
@@ -16,4 +17,5 @@ returns-in-Ok-Some g c =
     (sym (rw c.in-Ok-Some.field-0-is at c.in-Ok-Some.ensures)) c.find_instance.ensures
 
 pub returns-in-Ok-None : goal.returns-in-Ok-None
-returns-in-Ok-None g c = finds_usage _ _ _ (unread_none _ (rw c.in-Ok-None.field-0-is at c.in-Ok-None.ensures))
+returns-in-Ok-None g c =
+    finds_usage _ _ _ (unread_none _ (rw c.in-Ok-None.field-0-is at c.in-Ok-None.ensures))

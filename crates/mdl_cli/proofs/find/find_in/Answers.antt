@@ -12,5 +12,6 @@ read_first-requires c =
 
 pub returns-in-Err-NotFirst : goal.returns-in-Err-NotFirst
 returns-in-Err-NotFirst c = λ term first.
-    c.read_first.ensures.not_first (c.in-Err-NotFirst.is ∙ ap (λ error. Err error) c.in-Err-NotFirst.field-0-is) term
+    c.read_first.ensures.not_first
+    (c.in-Err-NotFirst.is ∙ ap (λ error. Err error) c.in-Err-NotFirst.field-0-is) term
     (subst (λ (name : List ℕ). IsFirstText c.args.bytes.now name term) (sym c.material.ensures) first)

@@ -6,15 +6,19 @@ use Rattle.mdl_cli.proofs.find.find_instance.Goals as goal
 
 pub returns-in-Found : goal.returns-in-Found
 returns-in-Found g c =
-    at_found (request_value c.args.request.now) _ _ _ _ _ (c.as_str.ensures.value ∙ c.in-Ok.ensures) c.in-Found.ensures
-    (subst (λ (bytes : List ℕ). FindsIn (request_value c.args.request.now) bytes c.find_in.result) c.list.ensures c.find_in.ensures)
+    at_found (request_value c.args.request.now) _ _ _ _ _ (c.as_str.ensures.value ∙ c.in-Ok.ensures)
+    c.in-Found.ensures
+    (subst (λ (bytes : List ℕ). FindsIn (request_value c.args.request.now) bytes c.find_in.result)
+    c.list.ensures c.find_in.ensures)
 
 pub returns-in-Absent : goal.returns-in-Absent
 returns-in-Absent g c =
-    at_absent (request_value c.args.request.now) _ _ _ _ (c.as_str.ensures.value ∙ c.in-Ok.ensures) c.in-Absent.ensures
+    at_absent (request_value c.args.request.now) _ _ _ _ (c.as_str.ensures.value ∙ c.in-Ok.ensures)
+    c.in-Absent.ensures
     c.absent.ensures
 
 pub returns-in-TooLong : goal.returns-in-TooLong
 returns-in-TooLong g c =
-    at_too_long (request_value c.args.request.now) _ _ _ _ (c.as_str.ensures.value ∙ c.in-Ok.ensures) c.in-TooLong.ensures
+    at_too_long (request_value c.args.request.now) _ _ _ _ (c.as_str.ensures.value ∙ c.in-Ok.ensures)
+    c.in-TooLong.ensures
     c.too_long.ensures

@@ -10,7 +10,8 @@ use Rattle.mdl_cli.proofs.first_text.read_first.Goals as goal
 pub returns-in_err-tree-clause-not_first : goal.returns-in_err-tree-clause-not_first
 returns-in_err-tree-clause-not_first c = λ e term first.
     let p = err_from_is_err_and c.from_residual.result c.from_residual.ensures.1 in
-    let none = none_from_not_first c.from_residual.result p.0 c.in_err-tree.field-0.0 _ p.1 p.2 e c.in_err-tree.ensures in
+    let none = none_from_not_first c.from_residual.result p.0 c.in_err-tree.field-0.0 _ p.1 p.2 e
+    c.in_err-tree.ensures in
     none-some term (sym none ∙ first_in_complete c.args.name.now c.args.bytes.now term first)
 
 pub returns-clause-first : goal.returns-clause-first

@@ -11,7 +11,9 @@ returns-in-Some c =
     let text = c.args.text.now in
     let name = c.as_bytes.result.now in
     let size = size_text c.args.ty.now.shape in
-    let begins = rw c.in-Some.is at (strip_prefix_is Decides-eqb text name c.strip_prefix.result c.strip_prefix.ensures.cases) in
+    let begins =
+    rw c.in-Some.is at (strip_prefix_is Decides-eqb text name c.strip_prefix.result
+    c.strip_prefix.ensures.cases) in
     c.is_size_text.ensures ∙ same_behind text name c.in-Some.size.now size begins
     ∙ ap (λ (name : List ℕ). bytes_eq text (name ++ size)) (c.as_bytes.ensures.value ∙ c.as_str.ensures)
 
@@ -20,6 +22,7 @@ returns-in-None c =
     let text = c.args.text.now in
     let name = c.as_bytes.result.now in
     let size = size_text c.args.ty.now.shape in
-    let apart = rw c.in-None.is at (strip_prefix_is Decides-eqb text name c.strip_prefix.result c.strip_prefix.ensures.cases) in
+    let apart = rw c.in-None.is at
+    (strip_prefix_is Decides-eqb text name c.strip_prefix.result c.strip_prefix.ensures.cases) in
     sym (apart_behind text name size apart)
     ∙ ap (λ (name : List ℕ). bytes_eq text (name ++ size)) (c.as_bytes.ensures.value ∙ c.as_str.ensures)

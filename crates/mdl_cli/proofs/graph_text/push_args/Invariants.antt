@@ -8,4 +8,5 @@ use Rattle.mdl_cli.proofs.graph_text.push_args.Given as goal
 
 abbrev pub invariant-loop-arg : goal.invariant-loop-arg
 invariant-loop-arg l =
-    l.text.items ≡ l.initial.text.items ++ flat_map (λ (next : Arg). codes "," ++ arg_text next) (take l.arg-index l.others)
+    l.text.items ≡ l.initial.text.items ++ flat_map (λ (next : Arg). codes "," ++ arg_text next)
+    (take l.arg-index l.others)

@@ -10,7 +10,8 @@ returns c =
     let s = c.index-symbols-node.result in
     let is = symbol_is kept.symbols c.symbols.result.now node.symbol s c.symbols.ensures
     c.get-node.ensures.made.symbol c.index-symbols-node.is in
-    let line = line_is kept c.args.id.0 node s c.requires.shared c.get-node.ensures.made c.get-node.ensures.term is in
+    let line = line_is kept c.args.id.0 node s c.requires.shared c.get-node.ensures.made
+    c.get-node.ensures.term is in
     c.in_ok-push_line.ensures
     ∙ ap (λ (text : List ℕ). c.args.text.now.items ++ text)
     (ap (λ (kids : List ℕ). line_text c.args.id.0 kids s) c.list.ensures ∙ line)

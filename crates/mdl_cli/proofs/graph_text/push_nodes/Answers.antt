@@ -9,5 +9,6 @@ loop-id-preserved c =
     let all = terms_of c.args.store.now in
     let within : c.loop-id.id < length all = omega (arith, c.len-count.ensures.terms) in
     c.in_ok-push_node.ensures
-    ∙ (ap (λ (text : List ℕ). text ++ node_line all c.loop-id.id (term_at all c.loop-id.id)) c.loop-id.invariant
+    ∙ (ap (λ (text : List ℕ). text ++ node_line all c.loop-id.id (term_at all c.loop-id.id))
+    c.loop-id.invariant
     ∙ lines_more all c.args.text.now.items c.loop-id.id within)

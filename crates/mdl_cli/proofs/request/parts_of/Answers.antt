@@ -9,17 +9,21 @@ use Rattle.mdl_cli.proofs.request.parts_of.Goals as goal
 pub returns-in_default : goal.returns-in_default
 returns-in_default c =
     let some : 0 < length c.loop-rest.rest.now = grind (arith, nat_tests) in
-    sym (parts_stop c.loop-rest.rest.now (parts_found c.loop-rest.parts) _ some (sym c.in_default.ensures) c.loop-rest.invariant)
+    sym (parts_stop c.loop-rest.rest.now (parts_found c.loop-rest.parts) _ some
+    (sym c.in_default.ensures) c.loop-rest.invariant)
 
 pub loop-rest-smaller : goal.loop-rest-smaller
-loop-rest-smaller c = part_in-shorter c.loop-rest.rest.now c.in-Some.part.now c.in-Some.behind.now (sym c.in-Some.ensures)
+loop-rest-smaller c =
+    part_in-shorter c.loop-rest.rest.now c.in-Some.part.now c.in-Some.behind.now (sym c.in-Some.ensures)
 
 pub loop-rest-preserved : goal.loop-rest-preserved
 loop-rest-preserved c =
     let some : 0 < length c.loop-rest.rest.now = grind (arith, nat_tests) in
-    let more = parts_more c.loop-rest.rest.now c.in-Some.behind.now c.in-Some.part.now (parts_found c.loop-rest.parts) _ some (sym c.in-Some.ensures) c.loop-rest.invariant in
+    let more = parts_more c.loop-rest.rest.now c.in-Some.behind.now c.in-Some.part.now
+    (parts_found c.loop-rest.parts) _ some (sym c.in-Some.ensures) c.loop-rest.invariant in
     let parts : parts_found c.push.new.self ≡ parts_found c.loop-rest.parts ++ c.in-Some.part.now ∷ [] =
-    ap (map (λ (part : Bor (List ℕ)). part.now)) c.in_ok-push.ensures.items ∙ map_push (λ (part : Bor (List ℕ)). part.now) c.loop-rest.parts.items c.in-Some.part in
+    ap (map (λ (part : Bor (List ℕ)). part.now)) c.in_ok-push.ensures.items
+    ∙ map_push (λ (part : Bor (List ℕ)). part.now) c.loop-rest.parts.items c.in-Some.part in
     ap (λ (front : List (List ℕ)). behind_parts front (asking.parts_of c.in-Some.behind.now)) parts ∙ more
 
 pub returns : goal.returns

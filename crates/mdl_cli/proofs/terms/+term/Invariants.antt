@@ -25,5 +25,6 @@ decreases-under l = 8 * l.height + 5
 
 abbrev pub invariant-others_in-loop-arg : goal.invariant-others_in-loop-arg
 invariant-others_in-loop-arg l =
-    behind_terms (map term_of l.kids.items) (reading.others_in (reading.term_in l.height) (drop l.arg-index l.args) l.rest)
+    behind_terms (map term_of l.kids.items)
+    (reading.others_in (reading.term_in l.height) (drop l.arg-index l.args) l.rest)
     ≡ behind_terms (term_of l.fn.first ∷ []) (reading.others_in (reading.term_in l.height) l.args l.fn.text)

@@ -23,7 +23,8 @@ pub returns-clause-made : goal.returns-clause-made
 returns-clause-made c = Fits-slice_get c.args.self.now c.args.id.0 c.index.result.now (is_shared c) (stands c)
 
 pub returns-clause-term : goal.returns-clause-term
-returns-clause-term c = slice_get-terms_of c.args.self.now c.args.id.0 c.index.result.now (is_shared c) (stands c)
+returns-clause-term c =
+    slice_get-terms_of c.args.self.now c.args.id.0 c.index.result.now (is_shared c) (stands c)
 
 pub returns-clause-below : goal.returns-clause-below
 returns-clause-below c = kids-below c.args.self.now c.args.id.0 c.index.result.now (is_shared c) (stands c)

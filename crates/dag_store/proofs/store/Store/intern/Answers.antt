@@ -1,5 +1,6 @@
 -- A new symbol leaves the terms of the nodes, whose symbols were there.
-use Rattle.std.proofs.Common.{◌≡◌, ◌+◌, ◌<◌, ◌^◌, false, Some, [], ◌∷◌, ◌++◌, length, slice_get, subst, sym, ◌∙◌, ap, arith}
+use Rattle.std.proofs.Common.{◌≡◌, ◌+◌, ◌<◌, ◌^◌, false, Some, [], ◌∷◌, ◌++◌, length, slice_get, subst}
+use Rattle.std.proofs.Common.{sym, ◌∙◌, ap, arith}
 use Rattle.std.specs.List.{list_any}
 use Rattle.case_table.specs.ListLaws.{with_first-known, list_any-slice_get, slice_get-push}
 use Rattle.type_rules.specs.Same.{same_symbol}
@@ -12,7 +13,8 @@ use Rattle.dag_store.proofs.store.Store.intern.Goals as goal
 pub returns-in-Some-clause-symbols : goal.returns-in-Some-clause-symbols
 returns-in-Some-clause-symbols c =
     let all = c.deref.ensures.value ∙ ap (λ (k : Kept). k.symbols) c.self.view_is in
-    let at = subst (λ ss. slice_get ss c.in-Some.number ≡ Some c.args.symbol.now) all c.in-Some.ensures.found in
+    let at = subst (λ ss. slice_get ss c.in-Some.number ≡ Some c.args.symbol.now) all
+    c.in-Some.ensures.found in
     let symbols = c.args.self.now.symbols in
     let wanted = c.args.symbol.now in
     let there = list_any-slice_get same_symbol same_symbol-tells symbols wanted c.in-Some.number at in
@@ -21,7 +23,8 @@ returns-in-Some-clause-symbols c =
 -- the symbols after the copy was pushed
 pushed : (c : goal.In_ok-push)
     → c.push.new.self.items ≡ c.self.inside.symbols.items ++ c.args.symbol.now ∷ []
-pushed c = c.in_ok-push.ensures.items ∙ ap (λ s. c.self.inside.symbols.items ++ s ∷ []) c.in_ok-copied.ensures.cases
+pushed c = c.in_ok-push.ensures.items
+    ∙ ap (λ s. c.self.inside.symbols.items ++ s ∷ []) c.in_ok-copied.ensures.cases
 
 pub invariant_of-self-2 : goal.invariant_of-self-2
 invariant_of-self-2 c =

@@ -78,7 +78,8 @@ is_new : (c : In_ok-push) → IsNew (before c) c.args.node
 is_new c =
     let absent = c.in_default.ensures.absent in
     let searched = c.deref.ensures.value in
-    IsNew-from_search (before c) (before c) c.deref.result.now c.args.node refl c.self.invariant (fits c) searched absent
+    IsNew-from_search (before c) (before c) c.deref.result.now c.args.node refl c.self.invariant
+    (fits c) searched absent
 
 pub invariant_of-self-2 : goal.invariant_of-self-2
 invariant_of-self-2 c =
@@ -95,7 +96,8 @@ returns-clause-id c =
     let now = at_nodes c c.push.new.self.items in
     let items = sym c.in_ok-push.ensures.items in
     subst (λ k. slice_get (terms_of now) place ≡ Some (stands_for k node)) c.self.view_is
-    (subst (λ nodes. slice_get (terms_of (at_nodes c nodes)) place ≡ Some (stands_for (before c) node)) items pushed)
+    (subst (λ nodes. slice_get (terms_of (at_nodes c nodes)) place ≡ Some (stands_for (before c) node))
+    items pushed)
 
 pub returns-clause-terms : goal.returns-clause-terms
 returns-clause-terms c =

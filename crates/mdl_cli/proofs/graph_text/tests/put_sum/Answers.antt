@@ -1,5 +1,6 @@
 -- The sum takes two kids of the type that a whole number has.
-use Rattle.std.proofs.Common.{◌≡◌, ℕ, ◌<◌, Some, List, [], ◌∷◌, map, length, slice_get, sym, subst, ap, ◌∙◌, true}
+use Rattle.std.proofs.Common.{◌≡◌, ℕ, ◌<◌, Some, List, [], ◌∷◌, map, length, slice_get, sym, subst, ap}
+use Rattle.std.proofs.Common.{◌∙◌, true}
 use Rattle.std.specs.List.{AllByRecursion}
 use Rattle.std.proofs.lemmas.Option.{slice_get_within, get_or_from_slice_get}
 use Rattle.case_table.specs.ListLaws.{slice_get-with_first_kept}
@@ -31,8 +32,10 @@ Fits-two kept node s j k t u at_symbol two at_j at_k takes =
     λ i. read_j i ∷ read_k i ∷ [] in
     record {
       symbol = slice_get_within kept.symbols node.symbol s at_symbol;
-      kids = subst (λ kids. AllByRecursion (λ kid. kid < length all) kids) (sym two) (inside_j, (inside_k, tt));
-      typed = ap (map (λ kid. term_type (term_at all kid))) two ∙ read ∙ sym takes ∙ ap types (sym read_symbol);
+      kids = subst (λ kids. AllByRecursion (λ kid. kid < length all) kids) (sym two)
+          (inside_j, (inside_k, tt));
+      typed = ap (map (λ kid. term_type (term_at all kid))) two ∙ read ∙ sym takes
+          ∙ ap types (sym read_symbol);
     }
 
 pub put-requires : goal.put-requires
@@ -40,8 +43,13 @@ put-requires c =
     let left = apply (symbol.Int c.args.left) nil in
     let right = apply (symbol.Int c.args.right) nil in
     let more = c.in_ok-right.ensures.terms in
-    let stays = slice_get-with_first_kept same_term (terms_of c.put_int.new.store) right c.in_ok-left.left.0 left c.in_ok-left.ensures.id in
-    let at_left = ap (λ (ts : List Term). slice_get ts c.in_ok-left.left.0) (c.in_ok-number.ensures.terms ∙ more) ∙ stays in
-    let at_right = ap (λ (ts : List Term). slice_get ts c.in_ok-right.right.0) c.in_ok-number.ensures.terms ∙ c.in_ok-right.ensures.id in
+    let stays = slice_get-with_first_kept same_term (terms_of c.put_int.new.store) right
+    c.in_ok-left.left.0 left c.in_ok-left.ensures.id in
+    let at_left =
+    ap (λ (ts : List Term). slice_get ts c.in_ok-left.left.0) (c.in_ok-number.ensures.terms ∙ more)
+    ∙ stays in
+    let at_right =
+    ap (λ (ts : List Term). slice_get ts c.in_ok-right.right.0) c.in_ok-number.ensures.terms
+    ∙ c.in_ok-right.ensures.id in
     Fits-two c.intern.new.self _ c.in_ok-sum.sum c.in_ok-left.left.0 c.in_ok-right.right.0 left right
     c.in_ok-number.ensures.number c.in_ok-copy.ensures at_left at_right c.in_ok-sum.ensures

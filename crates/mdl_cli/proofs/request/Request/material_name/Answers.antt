@@ -9,5 +9,9 @@ pub returns : goal.returns
 returns c =
     c.in_ok-extend_from_slice-2.ensures.items
     ∙ (ap (λ (name : List ℕ). name ++ c.args.self.now.material.now)
-    (c.in_ok-extend_from_slice.ensures.items ∙ ap (λ (name : List ℕ). name ++ codes "::") (c.in_ok-push_module_name.ensures ∙ ap (λ (name : List ℕ). name ++ absolute (parts_found c.args.self.now.parts)) c.new-name.ensures.items))
+    (c.in_ok-extend_from_slice.ensures.items
+    ∙ ap (λ (name : List ℕ). name ++ codes "::")
+    (c.in_ok-push_module_name.ensures
+    ∙ ap (λ (name : List ℕ). name ++ absolute (parts_found c.args.self.now.parts))
+    c.new-name.ensures.items))
     ∙ sym (absolute-push (parts_found c.args.self.now.parts) c.args.self.now.material.now))

@@ -7,11 +7,18 @@ use Rattle.mdl_cli.proofs.PartLaws.{all_parts, part-ascii}
 use Rattle.mdl_cli.proofs.request.Request.path.Goals as goal
 
 pub ascii-requires : goal.ascii-requires
-ascii-requires c = rw c.deref-part-items.ensures.value (part-ascii c.args.self.now.parts.items c.loop-part.part-index _ (omega (arith, ap length c.deref-part-items.ensures.value)) c.requires)
+ascii-requires c =
+    rw c.deref-part-items.ensures.value
+    (part-ascii c.args.self.now.parts.items c.loop-part.part-index _
+    (omega (arith, ap length c.deref-part-items.ensures.value)) c.requires)
 
 pub returns : goal.returns
 returns c =
-    let parts = all_parts (codes "/") c.args.self.now.parts.items c.loop-part.part-index (omega (arith, ap length c.deref-part-items.ensures.value)) in
+    let parts = all_parts (codes "/") c.args.self.now.parts.items c.loop-part.part-index
+    (omega (arith, ap length c.deref-part-items.ensures.value)) in
     c.in_ok-push_str-3.ensures.bytes
-    ∙ (ap (λ (path : List ℕ). path ++ codes ".mdl") (c.loop-part.invariant ∙ ap (λ (text : List ℕ). c.args.self.now.root.now ++ text) parts)
-    ∙ append_assoc c.args.self.now.root.now (flat_map (λ (part : List ℕ). codes "/" ++ part) (parts_found c.args.self.now.parts)) (codes ".mdl"))
+    ∙ (ap (λ (path : List ℕ). path ++ codes ".mdl")
+    (c.loop-part.invariant ∙ ap (λ (text : List ℕ). c.args.self.now.root.now ++ text) parts)
+    ∙ append_assoc c.args.self.now.root.now
+    (flat_map (λ (part : List ℕ). codes "/" ++ part) (parts_found c.args.self.now.parts))
+    (codes ".mdl"))

@@ -6,4 +6,5 @@ use Rattle.mdl_cli.proofs.TreeLaws.{term_of-out}
 use Rattle.mdl_cli.proofs.tree.Tree.kids.Goals as goal
 
 pub returns : goal.returns
-returns c = ap (map term_of) c.list.ensures ∙ sym (ap kids_of (term_of-out c.args.self.now) ∙ list_of-terms_from _)
+returns c = ap (map term_of) c.list.ensures
+    ∙ sym (ap kids_of (term_of-out c.args.self.now) ∙ list_of-terms_from _)
