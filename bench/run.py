@@ -16,25 +16,30 @@ MB = 1 << 20
 SIZES = (MB, 4 * MB)
 RUNS = 5
 PIECE = 1 << 16
+# Names, numbers and marks, as a module of small functions has them.
+DENSE = b"export float scale_12(float x, float y0 = 1.5) = x * 2 + y0 >= 0x1f;\n"
 
 # Exit numbers of the program.
 DONE = 0
 REFUSED = 1
 
 
-def fill(file, byte, count):
-    """Writes a byte so often, in pieces: the size of this process is the floor of each peak."""
-    while count > 0:
-        piece = min(count, PIECE)
-        file.write(byte * piece)
-        count -= piece
+def fill(file, pattern, count):
+    """Writes a pattern over so many bytes, and blanks for the rest, in pieces: the size of this process is the
+    floor of each peak."""
+    piece = pattern * (PIECE // len(pattern))
+    while count >= len(pattern):
+        written = piece[:count // len(pattern) * len(pattern)]
+        file.write(written)
+        count -= len(written)
+    file.write(b" " * count)
 
 
-def make(path, before, byte, after, size):
-    """A file of this size: `byte` fills the place between what stands before and after."""
+def make(path, before, pattern, after, size):
+    """A file of this size: the pattern fills the place between what stands before and after."""
     with open(path, "wb") as file:
         file.write(before)
-        fill(file, byte, size - len(before) - len(after))
+        fill(file, pattern, size - len(before) - len(after))
         file.write(after)
 
 
@@ -44,8 +49,12 @@ def inputs(text):
     return (
         ("separators at the end", text, b" ", b"", DONE),
         ("separators in front", b"", b"\n", text, DONE),
+        ("a comment", b"/*", b"c", b"*/" + text, DONE),
         ("a long real", text[:end_of_real], b"0", text[end_of_real:], DONE),
-        ("a single name", b"", b"m", b"", REFUSED),
+        ("dense tokens", b"", DENSE, b"", REFUSED),
+        ("a single identifier", b"", b"m", b"", REFUSED),
+        ("a single string", b'"', b"s", b'"', REFUSED),
+        ("marks and blanks", b"", b"( ", b"", REFUSED),
         ("marks alone", b"", b"(", b"", REFUSED),
     )
 
@@ -87,15 +96,15 @@ def main():
         argv = [program, "instance", root, "::m::m"]
         print(f"{'input':24} {'bytes':>9} {'status':>6} {'ms':>10} {'peak MB':>9}  (best of {RUNS} runs)")
         show("/bin/true (the floor)", 0, best(["/bin/true"], out))
-        make(path, text, b"", b"", len(text))
+        make(path, text, b" ", b"", len(text))
         measured = best(argv, out)
         show("the first text", len(text), measured)
         if measured[0] != DONE:
             wrong.append("the first text")
-        for name, before, byte, after, wanted in inputs(text):
+        for name, before, pattern, after, wanted in inputs(text):
             times = []
             for size in SIZES:
-                make(path, before, byte, after, size)
+                make(path, before, pattern, after, size)
                 measured = best(argv, out)
                 times.append(measured[1])
                 growth = f"{times[-1] / times[0]:.1f} times the time of 1 MB" if len(times) > 1 else ""

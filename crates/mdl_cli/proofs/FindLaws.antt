@@ -1,7 +1,10 @@
 -- From what is found in a file to what is found for the words.
 use Rattle.std.proofs.Common.{◌≡◌, ◌≢◌, ℕ, ◌+◌, ◌<◌, ◌≤◌, true, false, List, [], ◌∷◌, Option, Some}
 use Rattle.std.proofs.Common.{None, length, refl, sym, ap, ◌∙◌, subst, inl, inr, arith}
-use Rattle.std.specs.Prelude.{IfSome, replicate}
+use Rattle.std.specs.Prelude.{IfSome, IfOk, Result, Ok, Err, replicate}
+use Rattle.std.specs.declared.vec.Vec.{Vec}
+use Rattle.std.specs.declared.alloc.Global.{Global}
+use Rattle.std.specs.declared.alloc.AllocError.{AllocError}
 use Rattle.std.specs.Str.{bytes_eq}
 use Rattle.std.specs.Cmp.Lexicographic.{bytes_decides}
 use Rattle.std.proofs.lemmas.Bool.{false≢true, cond-true}
@@ -9,15 +12,24 @@ use Rattle.std.proofs.lemmas.Option.{none-some}
 use Rattle.std.proofs.lemmas.List.{length-replicate}
 use Rattle.io_edge.specs.declared.source.Read.TheVariants as read
 use Rattle.io_edge.specs.Source.{File, SourceState, file_at, Reads}
+use Rattle.mdl_lexer.specs.declared.token.Token.{Token}
+use Rattle.mdl_lexer.specs.declared.token.LexFault.{LexFault}
+use Rattle.mdl_lexer.specs.declared.token.LexFault.TheVariants as fault
+use Rattle.mdl_lexer.specs.Lexes.{HasTokens, HasFault}
+use Rattle.mdl_lexer.specs.OneLexing.{IsFault}
+use Rattle.mdl_lexer.proofs.LexLaws.{lexing_is_one}
 use Rattle.mdl_cli.specs.declared.status.Status.TheVariants as status
 use Rattle.mdl_cli.specs.declared.answer.Answer.{Answer}
 use Rattle.mdl_cli.specs.declared.answer.Answer.TheVariants as answer
 use Rattle.mdl_cli.specs.Request.{Request, IsRequest, NoRequest, names_command, module_name, path_of}
-use Rattle.mdl_cli.specs.Lines.{usage_line, absent_line, too_long_line, not_built_line}
-use Rattle.mdl_cli.specs.Outcome.{most_module, RefusesRequest}
+use Rattle.mdl_cli.specs.Words.{kinds_of}
+use Rattle.mdl_cli.specs.FirstText.{AreFirstWords}
+use Rattle.mdl_cli.specs.Lines.{usage_line, absent_line, too_long_line, not_built_line, fault_line}
+use Rattle.mdl_cli.specs.Outcome.{most_module, RefusesRequest, RefusesBytes}
 use Rattle.mdl_cli.specs.Headline.{MayHold, RefusalLine}
 use Rattle.mdl_cli.specs.inside.Asking.{request_in}
-use Rattle.mdl_cli.specs.inside.Delivery.{HasCause, Finds, FindsIn, FindsLine, FindsAt, IsLine}
+use Rattle.mdl_cli.specs.inside.Delivery.{HasCause, Finds, FindsIn, FindsInWords, FindsLine}
+use Rattle.mdl_cli.specs.inside.Delivery.{FindsAt, IsLine, RefusesFault, Told}
 use Rattle.mdl_cli.proofs.RequestLaws.{request_in_sound, request_in_complete}
 
 -- files that the source may hold, with this at the path
@@ -65,6 +77,20 @@ held_long None path most told =
     ((path, long.0) ∷ [], (tt, (long.0, one_file path long.0, long.1)))
 held_long (Some files) path most told = (files, (refl, told))
 
+-- a line that the file is refused with
+refused_line : (request : Request) (source : SourceState) (bytes line : List ℕ) →
+    Held source (path_of request) (Some bytes) → length bytes ≤ most_module →
+    RefusesBytes request bytes line →
+    FindsLine request source line
+refused_line request source bytes line h short refuses = record {
+  files = h.files;
+  held = h.held;
+  refuses = subst (λ (file : Option (List ℕ)). RefusesRequest request file line) (sym h.there) (inr (
+    short,
+    refuses,
+  ));
+}
+
 -- what is found in the file is found for the request
 in_file : (request : Request) (source after : SourceState) (bytes : List ℕ) (answer : Answer) →
     Held source (path_of request) (Some bytes) → length bytes ≤ most_module →
@@ -82,14 +108,11 @@ in_file request source after bytes (answer.Text text) h short found = record {
     text_is = found.2;
   };
 }
-in_file request source after bytes answer.NotBuilt h short found = record {
-  files = h.files;
-  held = h.held;
-  refuses = subst (λ (file : Option (List ℕ)). RefusesRequest request file not_built_line) (sym h.there)
-      (inr (short, found, refl));
-}
+in_file request source after bytes answer.NotBuilt h short found =
+    refused_line request source bytes not_built_line h short found
+in_file request source after bytes (answer.Refused line) h short found =
+    refused_line request source bytes line.items h short found
 in_file request source after bytes answer.OutOfMemory h short found = tt
-in_file request source after bytes (answer.Refused line) h short found = absurd found
 in_file request source after bytes answer.Usage h short found = absurd found
 in_file request source after bytes answer.ReadFault h short found = absurd found
 
@@ -139,6 +162,67 @@ at_too_long request path source after answer same reads is =
           (λ (file : Option (List ℕ)). RefusesRequest request file
           (too_long_line (module_name request))) (sym there) (inl (h.1.1.2, refl));
     })
+
+-- what is found in a file's words is found in the file
+pub words_found : (request : Request) (bytes : List ℕ) (tokens : List Token) (found : Answer) →
+    HasTokens bytes tokens → FindsInWords request (kinds_of tokens) found → FindsIn request bytes found
+words_found request bytes tokens (answer.Text text) has is = (
+  is.0,
+  record { tokens = tokens; has = has; first = is.1 },
+  is.2,
+)
+words_found request bytes tokens (answer.Refused line) has is =
+    inr (inr (record {
+      name = is.name;
+      term = is.term;
+      first = record { tokens = tokens; has = has; first = is.first };
+      other = is.other;
+      line_is = is.line_is;
+    }))
+words_found request bytes tokens answer.NotBuilt has is =
+    inr (inl (record {
+      tokens = tokens;
+      has = has;
+      none = λ name term first.
+          is name term
+          (subst (λ (ts : List Token). AreFirstWords (kinds_of ts) name term)
+          ((lexing_is_one bytes).one_list first.tokens tokens first.has has) first.first);
+      line_is = refl;
+    }))
+words_found request bytes tokens answer.OutOfMemory has is = tt
+words_found request bytes tokens answer.Usage has is = is
+words_found request bytes tokens answer.ReadFault has is = is
+
+-- a line that may have failed is told, if there was memory for it
+pub told_line : (line : List ℕ) (result : Result (Vec ℕ Global) AllocError) (found : Answer) →
+    IfOk result (λ own. own.items ≡ line) → Told result found → IsLine line found
+told_line line (Ok own) found is told = subst (λ (a : Answer). IsLine line a) (sym told) is
+told_line line (Err error) found is told = subst (λ (a : Answer). IsLine line a) (sym told) tt
+
+-- the line of a fault, if there was memory for it
+line_found : (request : Request) (bytes : List ℕ) (fault_is : LexFault) (found : Answer) →
+    IsFault bytes fault_is →
+    IsLine (fault_line (module_name request) bytes fault_is) found → FindsIn request bytes found
+line_found request bytes fault_is (answer.Refused line) stands is =
+    inl (record { fault = fault_is; stands = stands; line_is = is })
+line_found request bytes fault_is answer.OutOfMemory stands is = tt
+line_found request bytes fault_is (answer.Text text) stands is = absurd is
+line_found request bytes fault_is answer.NotBuilt stands is = absurd is
+line_found request bytes fault_is answer.Usage stands is = absurd is
+line_found request bytes fault_is answer.ReadFault stands is = absurd is
+
+-- what is found where a fault stands in the file
+pub fault_found : (request : Request) (bytes : List ℕ) (fault_is : LexFault) (found : Answer) →
+    HasFault bytes fault_is → RefusesFault (module_name request) bytes fault_is found →
+    FindsIn request bytes found
+fault_found request bytes (fault.NotUtf8 at) found stands is =
+    line_found request bytes (fault.NotUtf8 at) found ((λ e. absurd cc), stands) is
+fault_found request bytes (fault.BadToken at) found stands is =
+    line_found request bytes (fault.BadToken at) found ((λ e. absurd cc), stands) is
+fault_found request bytes (fault.IntRange at) found stands is =
+    line_found request bytes (fault.IntRange at) found ((λ e. absurd cc), stands) is
+fault_found request bytes fault.OutOfMemory found stands is =
+    subst (λ (a : Answer). FindsIn request bytes a) (sym is) tt
 
 cause_of : (words : List (List ℕ)) (request : Request) (source after : SourceState) (answer : Answer) →
     IsRequest words request → names_command words ≡ true → FindsAt request source after answer →

@@ -1,189 +1,117 @@
--- First texts: reading one from its front agrees with what a first text is.
-use Rattle.std.proofs.Common.{◌≡◌, ◌<◌, ℕ, true, false, List, [], ◌∷◌, ◌++◌, Some, None, codes, refl}
-use Rattle.std.proofs.Common.{sym, ap, ◌∙◌, subst, arith, option_and_then}
-use Rattle.std.specs.List.{list_any, list_all}
+-- First texts: reading one from the front of its words agrees with what a first text is.
+use Rattle.std.proofs.Common.{◌≡◌, ℕ, not, true, false, List, [], ◌∷◌, Some}
+use Rattle.std.proofs.Common.{codes, refl, sym, ◌∙◌, arith}
+use Rattle.std.specs.List.{list_any}
 use Rattle.std.specs.Str.{bytes_eq}
-use Rattle.std.proofs.lemmas.Bool.{cond-true}
-use Rattle.std.proofs.lemmas.Option.{none-some, same_Some, cond_some, option_and_then_some}
+use Rattle.std.proofs.lemmas.Bool.{and_parts, not-true}
+use Rattle.std.proofs.lemmas.Option.{some_pair_parts}
 use Rattle.type_rules.specs.Types.{plain}
-use Rattle.type_rules.specs.Terms.{Term, term_type}
-use Rattle.mdl_cli.specs.Names.{is_identifier, prelude_names}
-use Rattle.mdl_cli.specs.Words.{Word, Name, Real, Mark, is_separator, StandsFirst, Stand}
-use Rattle.mdl_cli.specs.FirstText.{IsFirstText, versions, written}
-use Rattle.mdl_cli.specs.inside.Reading.{word_in, behind, version_word, behind_version, behind_head}
-use Rattle.mdl_cli.specs.inside.Reading.{most_height, term_in, first_in}
-use Rattle.mdl_cli.proofs.WordLaws.{word_in_sound, word_in_complete, behind_sound, behind_complete}
-use Rattle.mdl_cli.proofs.TermReading.{Stand-split, Stand-join, term_in_sound, term_in_complete, rank}
-use Rattle.mdl_cli.proofs.TermReading.{rank-material}
+use Rattle.type_rules.specs.Terms.{Term}
+use Rattle.mdl_lexer.specs.declared.token.Kind.{Kind}
+use Rattle.mdl_lexer.specs.declared.token.Kind.TheVariants as kind
+use Rattle.mdl_cli.specs.Names.{prelude_names}
+use Rattle.mdl_cli.specs.Words.{name_word, mark_word}
+use Rattle.mdl_cli.specs.FirstText.{AreFirstWords, versions}
+use Rattle.mdl_cli.specs.inside.Reading.{behind, behind_version, name_in, head_in, most_height}
+use Rattle.mdl_cli.specs.inside.Reading.{if_ended, first_in}
+use Rattle.mdl_cli.proofs.TermReading.{IfRead, nothing, just, and_then, by_test, behind_sound}
+use Rattle.mdl_cli.proofs.TermReading.{term_in_sound, term_in_complete, rank}
 
--- a known version stands first
-record VersionStands (text rest : List ℕ) : Type 0 where
+-- a known version comes first
+record VersionFirst (words rest : List Kind) : Type 0 where
   version : List ℕ
   known : list_any (bytes_eq version) versions ≡ true
-  stands : StandsFirst (Real version) text rest
+  are : words ≡ kind.Real version false ∷ rest
 
--- a version word that stands first is a known version where the rest behind it is read
-version_stands : (w : Word) (text mid rest : List ℕ) → StandsFirst w text mid →
-    version_word (w, mid) ≡ Some rest
-    → VersionStands text rest
-version_stands (Real version) text mid rest h e =
-    let parts = cond_some (list_any (bytes_eq version) versions) mid rest e in
-    record {
-      version =
-          version;
-      known = parts.0;
-      stands = subst (λ r. StandsFirst (Real version) text r) parts.1 h;
-    }
-version_stands _ text mid rest h e = absurd (none-some rest e)
-
--- a version behind which the rest is read stands first
-version_sound : (text rest : List ℕ) → behind_version text ≡ Some rest → VersionStands text rest
+version_sound : (words : List Kind) → IfRead (behind_version words) (VersionFirst words)
 unfolding behind_version
-version_sound text rest e =
-    option_and_then_some version_word (word_in text) rest e (λ word word_is e1.
-    version_stands word.0 text word.1 rest (word_in_sound text word.0 word.1 word_is) e1)
+version_sound [] = nothing
+version_sound (kind.Real text double ∷ words) =
+    by_test _
+    (λ passes.
+    let both = and_parts (not double) (list_any (bytes_eq text) versions) passes in
+    just (record { version = text; known = both.1; are = rw (not-true double both.0) refl }))
+    (λ _. nothing)
+version_sound (_ ∷ words) = nothing
 
--- the rest behind a known version that stands first is read
-version_complete : (version text rest : List ℕ) → list_any (bytes_eq version) versions ≡ true
-    → StandsFirst (Real version) text rest → behind_version text ≡ Some rest
-unfolding behind_version
-version_complete version text rest known h =
-    ap (option_and_then version_word) (word_in_complete text (Real version) rest h)
-    ∙ cond-true (list_any (bytes_eq version) versions) (Some rest) None known
+name_sound : (words : List Kind) → IfRead (name_in words) (λ found. words ≡ kind.Word found.0 ∷ found.1)
+unfolding name_in
+name_sound [] = nothing
+name_sound (kind.Word name ∷ words) = just refl
+name_sound (_ ∷ words) = nothing
 
--- the words before a material's term
-abbrev top_words : List ℕ → List ℕ → List Word
-top_words version name =
-    Name (codes "mdl") ∷ Real version ∷ Mark 59 ∷ Name (codes "export") ∷ Name (codes "material") ∷ Name name
-    ∷ Mark 40 ∷ Mark 41 ∷ Mark 61 ∷ []
+-- the words of a head, and those behind it
+abbrev behind_head : List ℕ → List ℕ → List Kind → List Kind
+behind_head version name rest =
+    name_word (codes "mdl") ∷ kind.Real version false ∷ mark_word (codes ";")
+    ∷ name_word (codes "export") ∷ name_word (codes "material") ∷ kind.Word name
+    ∷ mark_word (codes "(") ∷ mark_word (codes ")") ∷ mark_word (codes "=") ∷ rest
 
--- they stand first, with a known version
-record HeadStands (name text rest : List ℕ) : Type 0 where
+-- a head with a known version comes first
+record HeadFirst (words : List Kind) (found : List ℕ × List Kind) : Type 0 where
   version : List ℕ
   known : list_any (bytes_eq version) versions ≡ true
-  stand : Stand (top_words version name) text rest
+  are : words ≡ behind_head version found.0 found.1
 
--- a head behind which the rest is read stands first
-head_sound : (name text rest : List ℕ) → behind_head name text ≡ Some rest → HeadStands name text rest
-unfolding behind_head
-head_sound name text rest e =
-    option_and_then_some _ (behind (Name (codes "mdl")) text) rest e (λ mdl mdl_is e1.
-    option_and_then_some _ (behind_version mdl) rest e1 (λ version version_is e2.
-    option_and_then_some _ (behind (Mark 59) version) rest e2 (λ line line_is e3.
-    option_and_then_some _ (behind (Name (codes "export")) line) rest e3 (λ export export_is e4.
-    option_and_then_some _ (behind (Name (codes "material")) export) rest e4 (λ material material_is e5.
-    option_and_then_some _ (behind (Name name) material) rest e5 (λ named named_is e6.
-    option_and_then_some _ (behind (Mark 40) named) rest e6 (λ opened opened_is e7.
-    option_and_then_some _ (behind (Mark 41) opened) rest e7 (λ closed closed_is e8.
-    let known = version_sound mdl version version_is in
-    record {
-      version = known.version;
-      known = known.known;
-      stand = (
-        mdl,
-        behind_sound (Name (codes "mdl")) text mdl mdl_is,
-        (
-          version,
-          known.stands,
-          (
-            line,
-            behind_sound (Mark 59) version line line_is,
-            (
-              export,
-              behind_sound (Name (codes "export")) line export export_is,
-              (
-                material,
-                behind_sound (Name (codes "material")) export material material_is,
-                (
-                  named,
-                  behind_sound (Name name) material named named_is,
-                  (
-                    opened,
-                    behind_sound (Mark 40) named opened opened_is,
-                    (
-                      closed,
-                      behind_sound (Mark 41) opened closed closed_is,
-                      (rest, behind_sound (Mark 61) closed rest e8, refl),
-                    ),
-                  ),
-                ),
-              ),
-            ),
-          ),
-        ),
-      );
-    }))))))))
+head_sound : (words : List Kind) → IfRead (head_in words) (HeadFirst words)
+unfolding head_in
+head_sound words =
+    and_then (behind_sound _ words) (λ mdl mdl_is.
+    and_then (version_sound mdl) (λ version top.
+    and_then (behind_sound _ version) (λ line line_is.
+    and_then (behind_sound _ line) (λ export export_is.
+    and_then (behind_sound _ export) (λ material material_is.
+    and_then (name_sound material) (λ named named_is.
+    and_then (behind_sound _ named.1) (λ opened opened_is.
+    and_then (behind_sound _ opened) (λ closed closed_is.
+    and_then (behind_sound _ closed) (λ equals equals_is.
+    just (record {
+      version = top.version;
+      known = top.known;
+      are = rw (mdl_is, top.are, line_is, export_is, material_is, named_is, opened_is, closed_is, equals_is);
+    }))))))))))
 
--- the rest behind a head that stands first is read
-head_complete : (version name text rest : List ℕ) → list_any (bytes_eq version) versions ≡ true
-    → Stand (top_words version name) text rest → behind_head name text ≡ Some rest
-unfolding behind_head
-head_complete version name text rest known stand =
-    let (
-      a,
-      a_is,
-      (b, b_is, (c, c_is, (d, d_is, (f, f_is, (g, g_is, (h, h_is, (j, j_is, (k, k_is, end)))))))),
-    ) =
-    stand in
-    ap (option_and_then _) (behind_complete (Name (codes "mdl")) text a a_is)
-    ∙ (ap (option_and_then _) (version_complete version a b known b_is)
-    ∙ (ap (option_and_then _) (behind_complete (Mark 59) b c c_is)
-    ∙ (ap (option_and_then _) (behind_complete (Name (codes "export")) c d d_is)
-    ∙ (ap (option_and_then _) (behind_complete (Name (codes "material")) d f f_is)
-    ∙ (ap (option_and_then _) (behind_complete (Name name) f g g_is)
-    ∙ (ap (option_and_then _) (behind_complete (Mark 40) g h h_is)
-    ∙ (ap (option_and_then _) (behind_complete (Mark 41) h j j_is)
-    ∙ (behind_complete (Mark 61) j k k_is ∙ ap Some end))))))))
+-- the words end, and the name is new
+ended : {P : List ℕ × Term → Type 0} (found : List ℕ × Term) (end : List Kind) →
+    (end ≡ [] → list_any (bytes_eq found.0) prelude_names ≡ false → P found) → IfRead (if_ended found end) P
+ended found [] h = by_test _ (λ _. nothing) (λ new. just (h refl new))
+ended found (word ∷ words) h = nothing
 
--- a text that is read as a first text of a material is one, and the term that is read is its term
-pub first_in_sound : (name bytes : List ℕ) (t : Term) → is_identifier name ≡ true →
-    list_any (bytes_eq name) prelude_names ≡ false
-    → first_in name bytes ≡ Some t → IsFirstText bytes name t
+first_sound : (words : List Kind) → IfRead (first_in words) (λ found. AreFirstWords words found.0 found.1)
 unfolding first_in
-first_in_sound name bytes t identifier new e =
-    option_and_then_some _ (behind_head name bytes) t e (λ head head_is e1.
-    option_and_then_some _ (term_in most_height (plain (codes "material")) head) t e1 (λ body body_is e2.
-    option_and_then_some _ (behind (Mark 59) body.1) t e2 (λ end end_is e3.
-    let top = head_sound name bytes head head_is in
-    let term = term_in_sound most_height (plain (codes "material")) head body.0 body.1 body_is in
-    let mark : StandsFirst (Mark 59) body.1 end = behind_sound (Mark 59) body.1 end end_is in
-    let parts = cond_some (list_all is_separator end) body.0 t e3 in
-    let words = Stand-join (written body.0) (Mark 59 ∷ []) head body.1 end term.0 (end, mark, refl) in
-    subst (λ u. IsFirstText bytes name u) parts.1 (record {
+first_sound words =
+    and_then (head_sound words) (λ head top.
+    and_then (term_in_sound most_height (plain (codes "material")) head.1) (λ body term.
+    and_then (behind_sound _ body.1) (λ end mark.
+    ended (head.0, body.0) end (λ none new.
+    record {
       version = top.version;
       known_version = top.known;
-      identifier = identifier;
       new_name = new;
-      first = term.1.0;
-      material = term.1.1;
-      end = end;
-      stand = Stand-join (top_words top.version name) (written body.0 ++ Mark 59 ∷ []) bytes head end
-          top.stand words;
-      separators = parts.0;
+      first = term.first;
+      material = term.typed;
+      are = rw (top.are, term.are, mark, none);
     }))))
 
--- a first text of a material is read as one, with its term
-pub first_in_complete : (name bytes : List ℕ) (t : Term) → IsFirstText bytes name t →
-    first_in name bytes ≡ Some t
-unfolding first_in
-first_in_complete name bytes t h =
-    let top = Stand-split (top_words h.version name) (written t ++ Mark 59 ∷ []) bytes h.end h.stand in
-    let body = Stand-split (written t) (Mark 59 ∷ []) top.0 h.end top.2 in
-    let head_is : behind_head name bytes ≡ Some top.0 =
-    head_complete h.version name bytes top.0 h.known_version top.1 in
-    let low : rank (term_type t) < most_height = omega (arith, ap rank h.material, rank-material) in
-    let term_is : term_in most_height (plain (codes "material")) top.0 ≡ Some (t, body.0) =
-    subst (λ ty. term_in most_height ty top.0 ≡ Some (t, body.0)) h.material
-    (term_in_complete most_height t top.0 body.0 h.first low body.1) in
-    let end_is : behind (Mark 59) body.0 ≡ Some h.end =
-    subst (λ r. behind (Mark 59) body.0 ≡ Some r) body.2.2
-    (behind_complete (Mark 59) body.0 body.2.0 body.2.1) in
-    ap (option_and_then _) head_is
-    ∙ (ap (option_and_then _) term_is
-    ∙ (ap (option_and_then _) end_is ∙ cond-true (list_all is_separator h.end) (Some t) None h.separators))
+pub first_in_sound : (words : List Kind) (name : List ℕ) (t : Term) → first_in words ≡ Some (name, t) →
+    AreFirstWords words name t
+first_in_sound words name t e = rw e at (first_sound words).is
 
--- a text is a first text of a material with one term at most
-pub first_text_is_one : (name bytes : List ℕ) (t u : Term) → IsFirstText bytes name t →
-    IsFirstText bytes name u → t ≡ u
-first_text_is_one name bytes t u h k =
-    same_Some t u (sym (first_in_complete name bytes t h) ∙ first_in_complete name bytes u k)
+pub first_in_complete : (words : List Kind) (name : List ℕ) (t : Term) → AreFirstWords words name t →
+    first_in words ≡ Some (name, t)
+unfolding first_in head_in behind behind_version name_in rank
+first_in_complete words name t h =
+    let end = mark_word (codes ";") ∷ [] in
+    rw (
+      h.are,
+      h.known_version,
+      term_in_complete most_height (plain (codes "material")) t end h.first h.material
+          (omega arith),
+      h.new_name,
+    ) refl
+
+-- words are a first text of one material at most
+pub first_words_are_one : (words : List Kind) (a b : List ℕ) (t u : Term) → AreFirstWords words a t →
+    AreFirstWords words b u → (a ≡ b) × (t ≡ u)
+first_words_are_one words a b t u h k =
+    some_pair_parts a b t u (sym (first_in_complete words a t h) ∙ first_in_complete words b u k)

@@ -1,4 +1,3 @@
-pub mod Ascii
 pub mod CompleteLaws
 pub mod FindLaws
 pub mod FirstLaws
@@ -8,9 +7,9 @@ pub mod GraphTextLaws
 pub mod HeadlineLaws
 pub mod KidLaws
 pub mod OutcomeLaws
+pub mod PartFronts
 pub mod PartLaws
 pub mod PutLaws
 pub mod RequestLaws
 pub mod TermReading
 pub mod TreeLaws
-pub mod WordLaws

@@ -1,22 +1,16 @@
 -- Parts of an absolute name, one after another.
-use Rattle.std.proofs.Common.{◌≡◌, ℕ, suc, ◌+◌, ◌<◌, ◌≤◌, List, [], ◌∷◌, ◌++◌, Option, Some, None, ◌-◌}
-use Rattle.std.proofs.Common.{zero, true, Bor, slice_index_or, take_all, take, slice_get, nat_le}
+use Rattle.std.proofs.Common.{◌≡◌, ℕ, suc, ◌+◌, ◌<◌, ◌≤◌, List, [], ◌∷◌, ◌++◌, Option, Some, None}
+use Rattle.std.proofs.Common.{Bor, take_all, take}
 use Rattle.std.proofs.Common.{length, map, refl, sym, ap, ◌∙◌, arith, option_and_then}
-use Rattle.std.proofs.lemmas.List.{append_assoc, append-nil, length-append, length_push, take_at}
-use Rattle.std.specs.List.{flat_map, list_all}
-use Rattle.std.specs.Str.{IsAscii}
+use Rattle.std.proofs.lemmas.List.{append_assoc, append-nil, length-append, length_push}
+use Rattle.std.specs.List.{flat_map}
 use Rattle.std.specs.Prelude.{codes}
 use Rattle.std.proofs.lemmas.List.Concat.{flat_map-append}
-use Rattle.std.proofs.lemmas.Bool.{cond-true, and_parts}
-use Rattle.std.proofs.lemmas.Bool.Decides.{nat_tests}
-use Rattle.case_table.specs.ListLaws.{slice_get-push}
-use Rattle.mdl_cli.specs.Names.{is_identifier, absolute}
-use Rattle.mdl_cli.specs.Request.{Request}
-use Rattle.mdl_cli.proofs.Ascii.{identifier-ascii}
+use Rattle.mdl_cli.specs.Names.{absolute}
 use Rattle.mdl_cli.specs.inside.Reading.{◌>>=◌}
 use Rattle.mdl_cli.specs.inside.Asking.{part_in, parts_in, parts_of, request_with}
 use Rattle.mdl_cli.specs.inside.Asked.{behind_parts}
-use Rattle.mdl_cli.proofs.RequestLaws.{part_sound, parts_in-enough}
+use Rattle.mdl_cli.proofs.RequestLaws.{part_sound, parts_in-enough, request_with_complete}
 
 -- what is left behind a part is shorter
 pub part_in-shorter : (text part rest : List ℕ) → part_in text ≡ Some (part, rest) → length rest < length text
@@ -79,37 +73,10 @@ pub request_with_is : (root : List ℕ) (parts front : List (List ℕ)) (last : 
     request_with root parts ≡ Some (record { root = root; parts = front; material = last })
 request_with_is root parts front last is many =
     let long : length parts ≡ length front + 1 = ap length is ∙ length_push front last in
-    let n : length parts - 1 ≡ length front = omega arith in
-    let took : take (length parts - 1) parts ≡ front =
-    ap (λ n. take n parts) n ∙ (ap (take (length front)) is
-    ∙ take_at front (last ∷ []) (length front) refl) in
-    let found : slice_get parts (length parts - 1) ≡ Some last =
-    ap (slice_get parts) n ∙ (ap (λ (ps : List (List ℕ)). slice_get ps (length front)) is
-    ∙ slice_get-push front last) in
-    let with_last : List ℕ → Option Request =
-    λ material. Some (record {
-      root =
-          root;
-      parts = take (length parts - 1) parts;
-      material = material;
-    }) in
-    let enough : nat_le 2 (length parts) ≡ true = grind (arith, nat_tests) in
-    cond-true (nat_le 2 (length parts))
-    (slice_get parts (length parts - 1)
-    >>= (λ material. Some (record {
-      root =
-          root;
-      parts = take (length parts - 1) parts;
-      material = material;
-    }))) None enough
-    ∙ (ap (λ (o : Option (List ℕ)). o
-    >>= (λ material. Some (record {
-      root =
-          root;
-      parts = take (length parts - 1) parts;
-      material = material;
-    }))) found
-    ∙ ap (λ (ps : List (List ℕ)). Some (record { root = root; parts = ps; material = last })) took)
+    ap (request_with root) is
+    ∙ request_with_complete root front last (λ none.
+    let empty : length front ≡ 0 = ap length none in
+    omega arith)
 
 parts_joined : (mark : List ℕ) (parts : List (Bor (List ℕ))) →
     flat_map (λ (part : Bor (List ℕ)). mark ++ part.now) parts
@@ -125,20 +92,6 @@ pub all_parts : (mark : List ℕ) (parts : List (Bor (List ℕ))) (i : ℕ) → 
 all_parts mark parts i whole =
     ap (flat_map (λ (part : Bor (List ℕ)). mark ++ part.now)) (take_all i parts whole)
     ∙ parts_joined mark parts
-
--- each part is ASCII
-pub part-ascii : (parts : List (Bor (List ℕ))) (i : ℕ) (d : Bor (List ℕ)) → i < length parts →
-    list_all is_identifier (map (λ (part : Bor (List ℕ)). part.now) parts) ≡ true →
-    IsAscii (slice_index_or parts i d).now
-part-ascii [] i d within names = absurd (omega arith)
-part-ascii (part ∷ parts) zero d within names =
-    identifier-ascii part.now
-    (and_parts (is_identifier part.now)
-    (list_all is_identifier (map (λ (part : Bor (List ℕ)). part.now) parts)) names).0
-part-ascii (part ∷ parts) (suc i) d within names =
-    part-ascii parts i d (omega arith)
-    (and_parts (is_identifier part.now)
-    (list_all is_identifier (map (λ (part : Bor (List ℕ)). part.now) parts)) names).1
 
 -- one more part stands behind `::`
 pub absolute-push : (parts : List (List ℕ)) (part : List ℕ) →

@@ -1,23 +1,27 @@
 -- Requests: reading the words of a command line agrees with what a request is.
-use Rattle.std.proofs.Common.{◌≡◌, ◌≢◌, ◌<◌, ◌≤◌, ℕ, zero, suc, ◌+◌, ◌-◌, ◌&&◌, not, cond, true, List}
-use Rattle.std.proofs.Common.{[], ◌∷◌, ◌++◌, Option, Some, None, codes, length, take, drop, slice_get}
-use Rattle.std.proofs.Common.{nat_le, nat_eq, refl, sym, ap, ◌∙◌, subst, arith, option_and_then}
+use Rattle.std.proofs.Common.{◌≡◌, ◌≢◌, ◌<◌, ◌≤◌, ℕ, zero, suc, ◌+◌, ◌-◌, ◌&&◌, ◌==◌, not, cond, Bool}
+use Rattle.std.proofs.Common.{true, List, [], ◌∷◌, ◌++◌, Option, Some, None, codes, length, take, drop}
+use Rattle.std.proofs.Common.{slice_get, nat_le, nat_eq, refl, sym, ap, ◌∙◌, subst, arith, option_and_then}
 use Rattle.std.specs.List.{list_all, prefix_len, starts_with, AllByRecursion}
 use Rattle.std.specs.Str.{bytes_eq}
 use Rattle.std.specs.Cmp.Lexicographic.{bytes_decides}
-use Rattle.std.proofs.lemmas.Bool.{false≢true, and_parts, and_from, or_left, cond-true, leb-true, le-leb}
+use Rattle.std.proofs.lemmas.Bool.{and_parts, and_from, cond-true, leb-true, le-leb}
 use Rattle.std.proofs.lemmas.List.{length-append, length-take-le, take-append-drop, take_at, drop_at}
 use Rattle.std.proofs.lemmas.List.{drop_all, get_or_at}
 use Rattle.std.proofs.lemmas.Option.{same_Some, none-some, cond_some, option_and_then_some, slice_get-get_or}
-use Rattle.mdl_cli.specs.Names.{starts_name, continues_name, is_name, is_reserved, is_identifier, absolute}
+use Rattle.mdl_cli.specs.Names.{is_identifier, absolute}
 use Rattle.mdl_cli.specs.Request.{Request, IsRequest, material_name, is_root, most_word}
 use Rattle.mdl_cli.specs.inside.Asking.{part_in, parts_in, parts_of, request_with, is_short, request_in}
-use Rattle.mdl_cli.proofs.WordLaws.{cond_then, stops, front_len, cut_at}
+use Rattle.mdl_cli.proofs.PartFronts.{cond_then, stops, front_len, cut_at, identifier_no_colon}
 
 -- a list that isn't empty has an element
 some_parts : (parts : List (List ℕ)) → parts ≢ [] → 0 < length parts
 some_parts [] h = absurd (h refl)
 some_parts (part ∷ parts) h = omega arith
+
+-- a byte other than `:`
+abbrev no_colon : ℕ → Bool
+no_colon byte = not (byte == 58)
 
 -- a part that is read is an identifier behind `::`
 pub part_sound : (text part rest : List ℕ) → part_in text ≡ Some (part, rest)
@@ -25,7 +29,7 @@ pub part_sound : (text part rest : List ℕ) → part_in text ≡ Some (part, re
 unfolding part_in
 part_sound text part rest e =
     let name : List ℕ = drop 2 text in
-    let end = prefix_len continues_name name in
+    let end = prefix_len no_colon name in
     let found : List ℕ × List ℕ = (take end name, drop end name) in
     let parts = cond_some (starts_with nat_eq text (codes "::") && is_identifier (take end name)) found
     (part, rest) e in
@@ -37,31 +41,23 @@ part_sound text part rest e =
     subst (λ (p : List ℕ × List ℕ). (text ≡ 58 ∷ 58 ∷ (p.0 ++ p.1)) × (is_identifier p.0 ≡ true))
     parts.1 (whole, both.1)
 
--- each byte of a name goes on with a name
-name_continues : (name : List ℕ) → is_name name ≡ true → list_all continues_name name ≡ true
-name_continues [] h = absurd (false≢true h)
-name_continues (b ∷ bs) h =
-    let both = and_parts (starts_name b) (list_all continues_name bs) h in
-    and_from (continues_name b) (list_all continues_name bs) (or_left (starts_name b) _ both.0) both.1
-
 -- an identifier behind `::` is read as a part, up to the next one
-part_complete : (part rest : List ℕ) → is_identifier part ≡ true → stops continues_name rest ≡ true
+part_complete : (part rest : List ℕ) → is_identifier part ≡ true → stops no_colon rest ≡ true
     → part_in (58 ∷ 58 ∷ (part ++ rest)) ≡ Some (part, rest)
 unfolding part_in
 part_complete part rest h s =
-    let name = and_parts (is_name part) (not (is_reserved part)) h in
-    let end : prefix_len continues_name (part ++ rest) ≡ length part =
-    front_len continues_name part rest (name_continues part name.0) s in
-    let taken : take (prefix_len continues_name (part ++ rest)) (part ++ rest) ≡ part =
+    let end : prefix_len no_colon (part ++ rest) ≡ length part =
+    front_len no_colon part rest (identifier_no_colon part h) s in
+    let taken : take (prefix_len no_colon (part ++ rest)) (part ++ rest) ≡ part =
     ap (λ n. take n (part ++ rest)) end ∙ take_at part rest (length part) refl in
-    let left : drop (prefix_len continues_name (part ++ rest)) (part ++ rest) ≡ rest =
+    let left : drop (prefix_len no_colon (part ++ rest)) (part ++ rest) ≡ rest =
     ap (λ n. drop n (part ++ rest)) end ∙ drop_at part rest (length part) refl in
     ap (λ p. cond (is_identifier p)
-    (Some (p, drop (prefix_len continues_name (part ++ rest)) (part ++ rest))) None) taken
+    (Some (p, drop (prefix_len no_colon (part ++ rest)) (part ++ rest))) None) taken
     ∙ (cond-true (is_identifier part) _ None h ∙ ap (λ r. Some (part, r)) left)
 
--- an absolute name goes on with no name
-absolute_stops : (parts : List (List ℕ)) → stops continues_name (absolute parts) ≡ true
+-- an absolute name is empty or begins with `:`
+absolute_stops : (parts : List (List ℕ)) → stops no_colon (absolute parts) ≡ true
 absolute_stops [] = refl
 absolute_stops (part ∷ parts) = refl
 
@@ -168,7 +164,7 @@ request_with_sound root parts request e =
     (same_Some (made material) request e1) (refl, sym whole, some))
 
 -- a material behind one or more parts makes a request
-request_with_complete : (root : List ℕ) (parts : List (List ℕ)) (material : List ℕ) → parts ≢ []
+pub request_with_complete : (root : List ℕ) (parts : List (List ℕ)) (material : List ℕ) → parts ≢ []
     → request_with root (parts ++ material ∷ [])
     ≡ Some (record { root = root; parts = parts; material = material })
 request_with_complete root parts material some =

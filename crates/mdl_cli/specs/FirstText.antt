@@ -2,15 +2,19 @@
 -- of constructors with exactly typed positional arguments.
 use Rattle.std.specs.Prelude.{◌≡◌, true, false, List, [], ◌∷◌, ◌++◌, Option, Some, None, codes}
 use Rattle.std.specs.Prelude.{ℕ, if◌then◌else◌}
-use Rattle.std.specs.List.{list_any, list_all}
+use Rattle.std.specs.List.{list_any}
 use Rattle.std.specs.Str.{bytes_eq}
 use Rattle.type_rules.specs.declared.ty.Arg.{Arg}
 use Rattle.type_rules.specs.declared.symbol.Symbol.{Symbol}
 use Rattle.type_rules.specs.declared.symbol.Symbol.TheVariants as symbol
 use Rattle.type_rules.specs.Types.{plain}
 use Rattle.type_rules.specs.Terms.{Term, Terms, apply, nil, cons, term_type, kid_types, Takes}
-use Rattle.mdl_cli.specs.Names.{is_identifier, prelude_names}
-use Rattle.mdl_cli.specs.Words.{Word, Name, Real, Mark, IsReal, is_separator, Stand}
+use Rattle.mdl_lexer.specs.declared.token.Kind.{Kind}
+use Rattle.mdl_lexer.specs.declared.token.Kind.TheVariants as kind
+use Rattle.mdl_lexer.specs.declared.token.Token.{Token}
+use Rattle.mdl_lexer.specs.Lexes.{HasTokens}
+use Rattle.mdl_cli.specs.Names.{prelude_names}
+use Rattle.mdl_cli.specs.Words.{kinds_of, name_word, mark_word}
 
 -- an argument of the type of this name
 abbrev pub varies : List ℕ → Arg
@@ -78,9 +82,9 @@ head_of (symbol.EnumValue ty value) = value
 head_of (symbol.Op name args result varying) = name
 head_of _ = []
 
--- a symbol of a first text's term: a real, or one that a name stands for
+-- a symbol of a first text's term: a float, or one that a name stands for
 abbrev pub IsForm : Symbol → Type 0
-IsForm (symbol.Real text double) = IsReal text × (double ≡ false)
+IsForm (symbol.Real text double) = double ≡ false
 IsForm s = symbol_named (head_of s) ≡ Some s
 
 -- the term is made of these symbols, each with kids of exactly the types that it takes
@@ -93,44 +97,49 @@ abbrev mutual
   AreFirst (cons t ts) = IsFirst t × AreFirst ts
 
 -- a symbol's name, around the words of its kids where it is an operation
-abbrev pub head_words : Symbol → List Word → List Word
-head_words (symbol.Real text double) kids = Real text ∷ []
-head_words (symbol.Op name args result varying) kids = Name name ∷ Mark 40 ∷ (kids ++ Mark 41 ∷ [])
-head_words s kids = Name (head_of s) ∷ []
+abbrev pub head_words : Symbol → List Kind → List Kind
+head_words (symbol.Real text double) kids = kind.Real text double ∷ []
+head_words (symbol.Op name args result varying) kids =
+    name_word name ∷ mark_word (codes "(") ∷ (kids ++ mark_word (codes ")") ∷ [])
+head_words s kids = name_word (head_of s) ∷ []
 
 -- the words of a term: an operation has its kids in parentheses, with commas between them
 abbrev mutual
-  pub written : Term → List Word
+  pub written : Term → List Kind
   written (apply s ts) = head_words s (kid_words ts)
 
-  pub kid_words : Terms → List Word
+  pub kid_words : Terms → List Kind
   kid_words nil = []
   kid_words (cons t ts) = written t ++ behind_commas ts
 
-  pub behind_commas : Terms → List Word
+  pub behind_commas : Terms → List Kind
   behind_commas nil = []
-  behind_commas (cons t ts) = Mark 44 ∷ (written t ++ behind_commas ts)
+  behind_commas (cons t ts) = mark_word (codes ",") ∷ (written t ++ behind_commas ts)
 
 -- the words of a first text
-abbrev pub first_words : List ℕ → List ℕ → Term → List Word
+abbrev pub first_words : List ℕ → List ℕ → Term → List Kind
 first_words version name term =
-    Name (codes "mdl") ∷ Real version ∷ Mark 59
-    ∷ Name (codes "export") ∷ Name (codes "material") ∷ Name name
-    ∷ Mark 40 ∷ Mark 41 ∷ Mark 61 ∷ (written term ++ Mark 59 ∷ [])
+    name_word (codes "mdl") ∷ kind.Real version false ∷ mark_word (codes ";")
+    ∷ name_word (codes "export") ∷ name_word (codes "material") ∷ kind.Word name
+    ∷ mark_word (codes "(") ∷ mark_word (codes ")") ∷ mark_word (codes "=")
+    ∷ (written term ++ mark_word (codes ";") ∷ [])
 
 abbrev pub versions : List (List ℕ)
 versions =
     codes "1.0" ∷ codes "1.1" ∷ codes "1.2" ∷ codes "1.3" ∷ codes "1.4" ∷ codes "1.5"
     ∷ codes "1.6" ∷ []
 
--- the bytes are a first text of the material of this name, and this is its term
-pub record IsFirstText (bytes name : List ℕ) (term : Term) : Type 0 where
+-- these words are a first text of the material of this name, and this is its term
+pub record AreFirstWords (words : List Kind) (name : List ℕ) (term : Term) : Type 0 where
   pub version : List ℕ
   pub known_version : list_any (bytes_eq version) versions ≡ true
-  pub identifier : is_identifier name ≡ true
   pub new_name : list_any (bytes_eq name) prelude_names ≡ false
   pub first : IsFirst term
   pub material : term_type term ≡ plain (codes "material")
-  pub end : List ℕ
-  pub stand : Stand (first_words version name term) bytes end
-  pub separators : list_all is_separator end ≡ true
+  pub are : words ≡ first_words version name term
+
+-- the bytes are a first text of the material of this name, and this is its term
+pub record IsFirstText (bytes name : List ℕ) (term : Term) : Type 0 where
+  pub tokens : List Token
+  pub has : HasTokens bytes tokens
+  pub first : AreFirstWords (kinds_of tokens) name term

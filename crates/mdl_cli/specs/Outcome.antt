@@ -1,13 +1,18 @@
 -- The answer to a command line over files, and the refusal where there is no answer.
-use Rattle.std.specs.Prelude.{◌≡◌, ◌⊎◌, ℕ, ◌≤◌, ◌<◌, List, Option, Some, None, length}
+use Rattle.std.specs.Prelude.{◌≡◌, ◌≢◌, ◌⊎◌, ℕ, ◌≤◌, ◌<◌, List, Option, Some, None, length}
 use Rattle.io_edge.specs.Source.{File, file_at}
 use Rattle.type_rules.specs.Terms.{Term}
+use Rattle.mdl_lexer.specs.declared.token.Token.{Token}
+use Rattle.mdl_lexer.specs.declared.token.LexFault.{LexFault}
+use Rattle.mdl_lexer.specs.Lexes.{HasTokens}
+use Rattle.mdl_lexer.specs.OneLexing.{IsFault}
 use Rattle.mdl_cli.specs.declared.status.Status.{Status}
 use Rattle.mdl_cli.specs.declared.status.Status.TheVariants as status
 use Rattle.mdl_cli.specs.Request.{Request, IsRequest, NoRequest, module_name, material_name, path_of}
 use Rattle.mdl_cli.specs.FirstText.{IsFirstText}
 use Rattle.mdl_cli.specs.GraphText.{instance_text}
-use Rattle.mdl_cli.specs.Lines.{usage_line, absent_line, too_long_line, not_built_line}
+use Rattle.mdl_cli.specs.Lines.{usage_line, absent_line, too_long_line, not_built_line, fault_line}
+use Rattle.mdl_cli.specs.Lines.{material_unknown_line}
 
 -- the longest file of a module, in bytes
 abbrev pub most_module : ℕ
@@ -28,14 +33,39 @@ pub record Answer (words : List (List ℕ)) (files : List File) (text : List ℕ
   pub asked : IsRequest words request
   pub answers : AnswersRequest request (file_at files (path_of request)) text
 
--- the line of a request whose module has no file, too long a one,
--- or one that isn't a first text of the material
+-- the file's bytes have no words for a fault that stands in them
+pub record RefusesWords (request : Request) (bytes line : List ℕ) : Type 0 where
+  pub fault : LexFault
+  pub stands : IsFault bytes fault
+  pub line_is : line ≡ fault_line (module_name request) bytes fault
+
+-- the file's bytes have words, but aren't a first text
+pub record RefusesForm (bytes line : List ℕ) : Type 0 where
+  pub tokens : List Token
+  pub has : HasTokens bytes tokens
+  pub none : (name : List ℕ) (term : Term) → IsFirstText bytes name term → ⊥
+  pub line_is : line ≡ not_built_line
+
+-- the file is a first text of another material
+pub record RefusesMaterial (request : Request) (bytes line : List ℕ) : Type 0 where
+  pub name : List ℕ
+  pub term : Term
+  pub first : IsFirstText bytes name term
+  pub other : name ≢ request.material
+  pub line_is : line ≡ material_unknown_line
+
+-- the line of a request whose module's file has these bytes
+abbrev pub RefusesBytes : Request → List ℕ → List ℕ → Type 0
+RefusesBytes request bytes line =
+    RefusesWords request bytes line ⊎ (RefusesForm bytes line ⊎ RefusesMaterial request bytes line)
+
+-- the line of a request whose module has no file, too long a one, or one that isn't a first text of the
+-- material
 abbrev pub RefusesRequest : Request → Option (List ℕ) → List ℕ → Type 0
 RefusesRequest request None line = line ≡ absent_line (module_name request)
 RefusesRequest request (Some bytes) line =
     ((most_module < length bytes) × (line ≡ too_long_line (module_name request)))
-    ⊎ ((length bytes ≤ most_module)
-    × ((term : Term) → IsFirstText bytes request.material term → ⊥) × (line ≡ not_built_line))
+    ⊎ ((length bytes ≤ most_module) × RefusesBytes request bytes line)
 
 -- words that are a request are refused with this line
 pub record RefusesAsked (words : List (List ℕ)) (files : List File) (line : List ℕ) : Type 0 where

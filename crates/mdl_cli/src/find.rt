@@ -1,15 +1,21 @@
-ghost use Rattle.std.specs.Prelude.{◌≡◌, map, string_bytes, IfOk};
+ghost use Rattle.std.specs.Prelude.{◌≡◌, ◌≤◌, map, length, string_bytes, IfOk};
 ghost use Rattle.type_rules.specs.Terms.{IsTyped};
+ghost use Rattle.mdl_lexer.specs.Places.{HasPlace};
 ghost use Rattle.mdl_cli.specs.Request.{material_name, module_name};
-ghost use Rattle.mdl_cli.specs.Lines.{absent_line, too_long_line};
+ghost use Rattle.mdl_cli.specs.Words.{kinds_of};
 ghost use Rattle.mdl_cli.specs.GraphText.{instance_text};
 ghost use Rattle.mdl_cli.specs.inside.Trees.{term_of};
 ghost use Rattle.mdl_cli.specs.inside.Asked.{request_value};
-ghost use Rattle.mdl_cli.specs.inside.Delivery.{Finds, FindsAt, FindsIn, IsLine, AreIdentifiers};
+ghost use Rattle.mdl_cli.specs.inside.Delivery.{Finds, FindsAt, FindsIn, FindsInWords};
+ghost use Rattle.mdl_cli.specs.inside.Delivery.{RefusesFault, Told};
 
 use crate::answer::Answer;
 use crate::first_text::read_first;
 use crate::graph_text::write_instance;
+use crate::lines::{
+    absent_line, bad_token_line, int_range_line, material_unknown_line, not_utf8_line,
+    too_long_line,
+};
 use crate::put::put_tree;
 use crate::request::{Request, names_command, read_request};
 use crate::terms::ReadError;
@@ -17,6 +23,7 @@ use crate::tree::Tree;
 use case_table::OutOfMemory;
 use dag_store::Store;
 use io_edge::{Read, Source};
+use mdl_lexer::{LexFault, Token, lex};
 use std::alloc::{AllocError, Global};
 
 /// The most bytes of a module's file.
@@ -38,7 +45,6 @@ pub fn find_answer<S: Source>(alloc: Global, words: &[String], source: &mut S) -
 
 /// What is found for a request for an instance.
 fn find_instance<S: Source>(alloc: Global, request: &Request<'_>, source: &mut S) -> Answer
-    requires { AreIdentifiers (request_value request.now) }
     ensures { FindsAt (request_value request.now) (S.state source.old) (S.state source.new) result }
 {
     let Ok(path) = request.path(alloc) else {
@@ -46,8 +52,8 @@ fn find_instance<S: Source>(alloc: Global, request: &Request<'_>, source: &mut S
     };
     match source.read(alloc, path.as_str(), MOST_MODULE) {
         Read::Found(bytes) => find_in(alloc, request, bytes.list()),
-        Read::Absent => absent(alloc, request),
-        Read::TooLong => too_long(alloc, request),
+        Read::Absent => refused(absent_line(alloc, request)),
+        Read::TooLong => refused(too_long_line(alloc, request)),
         Read::Failed => Answer::ReadFault,
         Read::OutOfMemory => Answer::OutOfMemory,
     }
@@ -55,11 +61,22 @@ fn find_instance<S: Source>(alloc: Global, request: &Request<'_>, source: &mut S
 
 /// What is found for a request in its module's file.
 fn find_in(alloc: Global, request: &Request<'_>, bytes: &[u8]) -> Answer
-    requires { AreIdentifiers (request_value request.now) }
+    requires { length bytes.now ≤ 4194304 }
     ensures { FindsIn (request_value request.now) bytes.now result }
 {
-    match read_first(alloc, request.material(), bytes) {
-        Ok(tree) => match instance_of(alloc, request, &tree) {
+    match lex(alloc, bytes) {
+        Ok(tokens) => find_in_words(alloc, request, &tokens),
+        Err(fault) => refuse_words(alloc, request, bytes, fault),
+    }
+}
+
+/// What is found for a request in the words of its module's file.
+fn find_in_words(alloc: Global, request: &Request<'_>, words: &[Token]) -> Answer
+    ensures { FindsInWords (request_value request.now) (kinds_of words.now) result }
+{
+    match read_first(alloc, words) {
+        Ok(first) if first.name != request.material() => refused(material_unknown_line(alloc)),
+        Ok(first) => match instance_of(alloc, request, &first.tree) {
             Ok(text) => Answer::Text(text),
             Err(OutOfMemory) => Answer::OutOfMemory,
         },
@@ -68,21 +85,25 @@ fn find_in(alloc: Global, request: &Request<'_>, bytes: &[u8]) -> Answer
     }
 }
 
-/// The refusal of a module that has no file.
-fn absent(alloc: Global, request: &Request<'_>) -> Answer
-    ensures { IsLine (absent_line (module_name (request_value request.now))) result }
+/// The refusal of a module whose bytes have no words.
+fn refuse_words(alloc: Global, request: &Request<'_>, bytes: &[u8], fault: LexFault) -> Answer
+    requires place { HasPlace bytes.now fault }
+    requires short { length bytes.now ≤ 4194304 }
+    ensures { RefusesFault (module_name (request_value request.now)) bytes.now fault result }
 {
-    match request.absent_line(alloc) {
-        Ok(line) => Answer::Refused(line),
-        Err(_) => Answer::OutOfMemory,
+    match fault {
+        LexFault::NotUtf8 { at } => refused(not_utf8_line(alloc, request, bytes, at)),
+        LexFault::BadToken { at } => refused(bad_token_line(alloc, request, bytes, at)),
+        LexFault::IntRange { at } => refused(int_range_line(alloc, request, bytes, at)),
+        LexFault::OutOfMemory => Answer::OutOfMemory,
     }
 }
 
-/// The refusal of a module whose file is too long.
-fn too_long(alloc: Global, request: &Request<'_>) -> Answer
-    ensures { IsLine (too_long_line (module_name (request_value request.now))) result }
+/// The refusal of this line, if there was memory for it.
+fn refused(line: Result<Vec<u8>, AllocError>) -> Answer
+    ensures { Told line result }
 {
-    match request.too_long_line(alloc) {
+    match line {
         Ok(line) => Answer::Refused(line),
         Err(_) => Answer::OutOfMemory,
     }

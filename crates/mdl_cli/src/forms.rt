@@ -1,9 +1,10 @@
 ghost use Rattle.std.specs.Prelude.{◌≡◌, IfOk, map};
 ghost use Rattle.type_rules.specs.Types.{plain};
-ghost use Rattle.mdl_cli.specs.FirstText.{symbol_named, named_in, forms};
+ghost use Rattle.mdl_cli.specs.inside.Reading as reading;
 ghost use Rattle.mdl_cli.specs.inside.Rows.{field_arg, form_symbol, form_row};
 
 use case_table::{Seq, Text};
+use mdl_lexer::{Kind, reserved};
 use std::alloc::{AllocError, Global};
 use type_rules::{Arg, Shape, Symbol, Ty};
 
@@ -31,28 +32,35 @@ enum Head {
 #[derive(Clone, Copy)]
 struct Form {
     name: &'static str,
+    /// The number of the name, if it is a reserved word.
+    reserved: Option<u16>,
     head: Head,
 }
 
 const FORMS: [Form; 16] = [
     Form {
         name: "true",
+        reserved: Some(reserved::TRUE),
         head: Head::Truth(true),
     },
     Form {
         name: "false",
+        reserved: Some(reserved::FALSE),
         head: Head::Truth(false),
     },
     Form {
         name: "intensity_radiant_exitance",
+        reserved: None,
         head: Head::Value("intensity_mode"),
     },
     Form {
         name: "intensity_power",
+        reserved: None,
         head: Head::Value("intensity_mode"),
     },
     Form {
         name: "bsdf",
+        reserved: Some(reserved::BSDF),
         head: Head::Operation {
             fields: &[],
             result: "bsdf",
@@ -61,6 +69,7 @@ const FORMS: [Form; 16] = [
     },
     Form {
         name: "edf",
+        reserved: Some(reserved::EDF),
         head: Head::Operation {
             fields: &[],
             result: "edf",
@@ -69,6 +78,7 @@ const FORMS: [Form; 16] = [
     },
     Form {
         name: "vdf",
+        reserved: Some(reserved::VDF),
         head: Head::Operation {
             fields: &[],
             result: "vdf",
@@ -77,6 +87,7 @@ const FORMS: [Form; 16] = [
     },
     Form {
         name: "hair_bsdf",
+        reserved: Some(reserved::HAIR_BSDF),
         head: Head::Operation {
             fields: &[],
             result: "hair_bsdf",
@@ -85,6 +96,7 @@ const FORMS: [Form; 16] = [
     },
     Form {
         name: "state_normal",
+        reserved: None,
         head: Head::Operation {
             fields: &[],
             result: "float3",
@@ -93,6 +105,7 @@ const FORMS: [Form; 16] = [
     },
     Form {
         name: "color",
+        reserved: Some(reserved::COLOR),
         head: Head::Operation {
             fields: &[Field::Varies("float")],
             result: "color",
@@ -101,6 +114,7 @@ const FORMS: [Form; 16] = [
     },
     Form {
         name: "float3",
+        reserved: Some(reserved::FLOAT3),
         head: Head::Operation {
             fields: &[Field::Varies("float")],
             result: "float3",
@@ -109,6 +123,7 @@ const FORMS: [Form; 16] = [
     },
     Form {
         name: "material_emission",
+        reserved: None,
         head: Head::Operation {
             fields: &[
                 Field::Varies("edf"),
@@ -121,6 +136,7 @@ const FORMS: [Form; 16] = [
     },
     Form {
         name: "material_surface",
+        reserved: None,
         head: Head::Operation {
             fields: &[Field::Varies("bsdf"), Field::Varies("material_emission")],
             result: "material_surface",
@@ -129,6 +145,7 @@ const FORMS: [Form; 16] = [
     },
     Form {
         name: "material_volume",
+        reserved: None,
         head: Head::Operation {
             fields: &[
                 Field::Varies("vdf"),
@@ -141,6 +158,7 @@ const FORMS: [Form; 16] = [
     },
     Form {
         name: "material_geometry",
+        reserved: None,
         head: Head::Operation {
             fields: &[
                 Field::Varies("float3"),
@@ -153,6 +171,7 @@ const FORMS: [Form; 16] = [
     },
     Form {
         name: "material",
+        reserved: Some(reserved::MATERIAL),
         head: Head::Operation {
             fields: &[
                 Field::Uniform("bool"),
@@ -169,25 +188,41 @@ const FORMS: [Form; 16] = [
     },
 ];
 
-/// The symbol that a name stands for, if it is one of a first text's.
-#[tactic(auto, unfolding(crate::specs::FirstText::symbol_named))]
-pub fn symbol_named(alloc: Global, name: &[u8]) -> Result<Option<Symbol>, AllocError>
-    ensures { IfOk result (λ found. found ≡ symbol_named name.now) }
+/// The symbol that a word stands for, reals aside.
+#[tactic(auto, unfolding(crate::specs::inside::Reading::word_forms))]
+pub fn symbol_named(alloc: Global, word: &Kind) -> Result<Option<Symbol>, AllocError>
+    ensures { IfOk result (λ found. found ≡ reading.symbol_among reading.word_forms word.now) }
 {
-    let found = named_in(alloc, name, &FORMS)?;
+    let found = symbol_among(alloc, word, &FORMS)?;
     Ok(found)
 }
 
-fn named_in(alloc: Global, name: &[u8], forms: &[Form]) -> Result<Option<Symbol>, AllocError>
-    ensures { IfOk result (λ found. found ≡ named_in (map form_row forms.now) name.now) }
+fn symbol_among(alloc: Global, word: &Kind, forms: &[Form]) -> Result<Option<Symbol>, AllocError>
+    ensures { IfOk result (λ found. found ≡ reading.symbol_among (map form_row forms.now) word.now) }
 {
     for form in forms {
-        if name == form.name.as_bytes() {
+        if is_written(form, word) {
             let symbol = symbol_of(alloc, form)?;
             return Ok(Some(symbol));
         }
     }
     Ok(None)
+}
+
+/// Whether a word is that of a form.
+fn is_written(form: &Form, word: &Kind) -> bool
+    ensures { result ≡ reading.same_word (form_row form.now).0 word.now }
+{
+    match form.reserved {
+        Some(number) => match word {
+            Kind::Reserved(found) => number == *found,
+            _ => false,
+        },
+        None => match word {
+            Kind::Word(name) => form.name == name.as_str(),
+            _ => false,
+        },
+    }
 }
 
 fn symbol_of(alloc: Global, form: &Form) -> Result<Symbol, AllocError>

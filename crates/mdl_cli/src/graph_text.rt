@@ -274,7 +274,7 @@ fn push_size(text: &mut Vec<u8>, shape: Shape) -> Result<(), AllocError>
 }
 
 /// Appends a number in decimal.
-fn push_number(text: &mut Vec<u8>, number: usize) -> Result<(), AllocError>
+pub fn push_number(text: &mut Vec<u8>, number: usize) -> Result<(), AllocError>
     ensures { OnOk result (text.new.items ≡ text.old.items ++ decimal number) }
 {
     let mut buffer = Buffer::new();

@@ -6,6 +6,7 @@ mod find;
 mod first_text;
 mod forms;
 mod graph_text;
+mod lines;
 mod names;
 mod put;
 mod request;

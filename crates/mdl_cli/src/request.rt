@@ -1,16 +1,15 @@
-ghost use Rattle.std.specs.Prelude.{◌≡◌, ◌==◌, ◌++◌, true, codes, map, string_bytes, IfOk, OnOk};
-ghost use Rattle.std.specs.List.{list_all, list_any};
+ghost use Rattle.std.specs.Prelude.{◌≡◌, ◌≤◌, ◌==◌, not, ◌++◌, map, length, string_bytes, is_some};
+ghost use Rattle.std.specs.Prelude.{IfOk, OnOk, IfSome};
+ghost use Rattle.std.specs.List.{list_any, prefix_len};
 ghost use Rattle.std.specs.Option.{option_map};
 ghost use Rattle.mdl_cli.specs.Names.{is_identifier};
 ghost use Rattle.mdl_cli.specs.Request.{is_root, is_option, names_command, path_of, module_name, material_name};
-ghost use Rattle.mdl_cli.specs.Lines.{absent_line, too_long_line};
 ghost use Rattle.mdl_cli.specs.inside.Asking as asking;
 ghost use Rattle.mdl_cli.specs.inside.Asked.{request_value, part_found, parts_found};
 
-use crate::names::is_identifier;
-use crate::terms::ascii;
-use crate::words::name_len;
+use mdl_lexer::is_identifier;
 use std::alloc::{AllocError, Global};
+use std::str;
 
 const INSTANCE: &str = "instance";
 
@@ -21,13 +20,13 @@ const MOST_WORD: usize = 4_194_304;
 pub struct Request<'a> {
     root: &'a str,
     /// The components of the module's name.
-    parts: Vec<&'a [u8]>,
-    material: &'a [u8],
+    parts: Vec<&'a str>,
+    material: &'a str,
 }
 
 impl<'a> Request<'a> {
     /// The material's own name.
-    pub fn material(&self) -> &'a [u8]
+    pub fn material(&self) -> &'a str
         ensures { result.now ≡ (request_value self.now).material }
     {
         self.material
@@ -35,34 +34,15 @@ impl<'a> Request<'a> {
 
     /// The path of the module's file under the root.
     pub fn path(&self, alloc: Global) -> Result<String, AllocError>
-        requires { list_all is_identifier (request_value self.now).parts ≡ true }
         ensures { IfOk result (λ path. string_bytes path ≡ path_of (request_value self.now)) }
     {
         let mut path = String::from_str(alloc, self.root)?;
         for part in &self.parts {
             path.push_str("/")?;
-            path.push_str(ascii(part))?;
+            path.push_str(part)?;
         }
         path.push_str(".mdl")?;
         Ok(path)
-    }
-
-    /// The line for a module that has no file.
-    pub fn absent_line(&self, alloc: Global) -> Result<Vec<u8>, AllocError>
-        ensures { IfOk result (λ line. line.items ≡ absent_line (module_name (request_value self.now))) }
-    {
-        let line = Vec::from_slice(alloc, b"error 10 Absent ")?;
-        let line = self.with_module_name(line)?;
-        Ok(line)
-    }
-
-    /// The line for a module whose file is too long.
-    pub fn too_long_line(&self, alloc: Global) -> Result<Vec<u8>, AllocError>
-        ensures { IfOk result (λ line. line.items ≡ too_long_line (module_name (request_value self.now))) }
-    {
-        let line = Vec::from_slice(alloc, b"error 11 TooLong ")?;
-        let line = self.with_module_name(line)?;
-        Ok(line)
     }
 
     /// The material's absolute name.
@@ -72,26 +52,17 @@ impl<'a> Request<'a> {
         let mut name = Vec::new(alloc);
         self.push_module_name(&mut name)?;
         name.extend_from_slice(b"::")?;
-        name.extend_from_slice(self.material)?;
+        name.extend_from_slice(self.material.as_bytes())?;
         Ok(name)
     }
 
-    /// The beginning of a line, and behind it the module's absolute name and the line's end.
-    fn with_module_name(&self, mut line: Vec<u8>) -> Result<Vec<u8>, AllocError>
-        ensures { IfOk result
-            (λ whole. whole.items ≡ line.items ++ (module_name (request_value self.now) ++ codes "\n")) }
-    {
-        self.push_module_name(&mut line)?;
-        line.extend_from_slice(b"\n")?;
-        Ok(line)
-    }
-
-    fn push_module_name(&self, text: &mut Vec<u8>) -> Result<(), AllocError>
+    /// Appends the module's absolute name.
+    pub fn push_module_name(&self, text: &mut Vec<u8>) -> Result<(), AllocError>
         ensures { OnOk result (text.new.items ≡ text.old.items ++ module_name (request_value self.now)) }
     {
         for part in &self.parts {
             text.extend_from_slice(b"::")?;
-            text.extend_from_slice(part)?;
+            text.extend_from_slice(part.as_bytes())?;
         }
         Ok(())
     }
@@ -163,7 +134,7 @@ fn is_option(word: &[u8]) -> bool
 }
 
 /// The parts of an absolute name of identifiers.
-fn parts_of(alloc: Global, name: &[u8]) -> Result<Option<Vec<&[u8]>>, AllocError>
+fn parts_of(alloc: Global, name: &[u8]) -> Result<Option<Vec<&str>>, AllocError>
     ensures { IfOk result (λ found. option_map parts_found found ≡ asking.parts_of name.now) }
 {
     let mut parts = Vec::new(alloc);
@@ -180,22 +151,44 @@ fn parts_of(alloc: Global, name: &[u8]) -> Result<Option<Vec<&[u8]>>, AllocError
 
 /// An identifier behind `::`, and the rest.
 #[tactic(auto, unfolding(crate::specs::inside::Asking::part_in))]
-fn part_in(text: &[u8]) -> Option<(&[u8], &[u8])>
+fn part_in(text: &[u8]) -> Option<(&str, &[u8])>
     ensures { option_map part_found result ≡ asking.part_in text.now }
 {
     if !text.starts_with(b"::") {
         return None;
     }
     let name = &text[2..];
-    let end = name_len(name);
-    if is_identifier(&name[..end]) {
-        Some((&name[..end], &name[end..]))
-    } else {
-        None
+    let end = part_len(name);
+    let part = identifier_of(&name[..end])?;
+    Some((part, &name[end..]))
+}
+
+/// Bytes as an identifier, if they are one.
+fn identifier_of(name: &[u8]) -> Option<&str>
+    ensures is { is_some result ≡ is_identifier name.now }
+    ensures same { IfSome result (λ text. text.now ≡ name.now) }
+{
+    match str::from_utf8(name) {
+        Ok(text) if is_identifier(text) => Some(text),
+        _ => None,
     }
 }
 
-fn request_with<'a>(root: &'a str, mut parts: Vec<&'a [u8]>) -> Option<Request<'a>>
+/// How many bytes stand before the first `:`.
+#[tactic(auto, using(crate::proofs::Fronts::prefix_len_at, crate::proofs::Fronts::prefix_len_whole))]
+fn part_len(text: &[u8]) -> usize
+    ensures len { result ≡ prefix_len (λ byte. not (byte == 58)) text.now }
+    ensures within { result ≤ length text.now }
+{
+    for i in 0..text.len() {
+        if text[i] == b':' {
+            return i;
+        }
+    }
+    text.len()
+}
+
+fn request_with<'a>(root: &'a str, mut parts: Vec<&'a str>) -> Option<Request<'a>>
     ensures { option_map request_value result ≡ asking.request_with root.now (parts_found parts.entry) }
 {
     if parts.len() < 2 {

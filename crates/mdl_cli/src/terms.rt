@@ -1,19 +1,18 @@
 ghost use Rattle.std.specs.Prelude.{◌≡◌, ◌∷◌, []};
-ghost use Rattle.std.specs.Str.{IsAscii};
 ghost use Rattle.type_rules.specs.Types.{type_of, plain};
 ghost use Rattle.type_rules.specs.Same.{same_type, same_shape};
+ghost use Rattle.mdl_cli.specs.Words.{kinds_of};
 ghost use Rattle.mdl_cli.specs.inside.Reading as reading;
-ghost use Rattle.mdl_cli.specs.inside.Views.{word_value};
 ghost use Rattle.mdl_cli.specs.inside.Trees.{term_of};
 ghost use Rattle.mdl_cli.specs.inside.Gives.{Gives, symbol_found, term_found, terms_found};
 ghost use Rattle.mdl_cli.specs.inside.Gives.{behind_terms, next_in};
 
 use crate::forms::symbol_named;
 use crate::tree::Tree;
-use crate::words::{Word, behind, word_in};
+use crate::words::{CLOSE, COMMA, OPEN, expect};
 use case_table::Text;
+use mdl_lexer::{Kind, Token};
 use std::alloc::{AllocError, AllocFailed, Global};
-use std::str;
 use type_rules::{Arg, Shape, Symbol, Ty};
 
 /// Why nothing was read.
@@ -46,16 +45,6 @@ impl<T: Drop> From<AllocFailed<T>> for ReadError {
     }
 }
 
-/// The rest behind a word, where the text begins with it.
-pub fn expect<'a>(wanted: Word<'_>, text: &'a [u8]) -> Result<&'a [u8], ReadError>
-    ensures { Gives (λ rest. rest.now) result (reading.behind (word_value wanted.entry) text.now) }
-{
-    match behind(wanted, text) {
-        Some(rest) => Ok(rest),
-        None => Err(ReadError::NotFirst),
-    }
-}
-
 /// A term of a type, of a height of at most so much, and the rest.
 #[cycle(term)]
 #[tactic(auto, unfolding(crate::specs::inside::Reading::term_in, crate::specs::inside::Reading::typed_in))]
@@ -63,14 +52,14 @@ pub fn term_in<'a>(
     alloc: Global,
     height: usize,
     wanted: &Ty,
-    text: &'a [u8],
-) -> Result<(Tree, &'a [u8]), ReadError>
-    ensures { Gives term_found result (reading.term_in height wanted.now text.now) }
+    words: &'a [Token],
+) -> Result<(Tree, &'a [Token]), ReadError>
+    ensures { Gives term_found result (reading.term_in height wanted.now (kinds_of words.now)) }
 {
     if height == 0 {
         return Err(ReadError::NotFirst);
     }
-    let (symbol, rest) = symbol_in(alloc, text)?;
+    let (symbol, rest) = symbol_in(alloc, words)?;
     if !has_type(&symbol, wanted) {
         return Err(ReadError::NotFirst);
     }
@@ -84,14 +73,14 @@ fn under<'a>(
     alloc: Global,
     height: usize,
     symbol: Symbol,
-    text: &'a [u8],
-) -> Result<(Tree, &'a [u8]), ReadError>
-    ensures { Gives term_found result (reading.under (reading.term_in height) symbol text.now) }
+    words: &'a [Token],
+) -> Result<(Tree, &'a [Token]), ReadError>
+    ensures { Gives term_found result (reading.under (reading.term_in height) symbol (kinds_of words.now)) }
 {
     let Symbol::Op { args, .. } = &symbol else {
-        return Ok((Tree::new(symbol, Vec::new(alloc)), text));
+        return Ok((Tree::new(symbol, Vec::new(alloc)), words));
     };
-    let (kids, rest) = operands_in(alloc, height, args.list(), text)?;
+    let (kids, rest) = operands_in(alloc, height, args.list(), words)?;
     Ok((Tree::new(symbol, kids), rest))
 }
 
@@ -102,13 +91,13 @@ fn operands_in<'a>(
     alloc: Global,
     height: usize,
     args: &[Arg],
-    text: &'a [u8],
-) -> Result<(Vec<Tree>, &'a [u8]), ReadError>
-    ensures { Gives terms_found result (reading.operands_in (reading.term_in height) args.now text.now) }
+    words: &'a [Token],
+) -> Result<(Vec<Tree>, &'a [Token]), ReadError>
+    ensures { Gives terms_found result (reading.operands_in (reading.term_in height) args.now (kinds_of words.now)) }
 {
-    let rest = expect(Word::Mark(b'('), text)?;
+    let rest = expect(OPEN, words)?;
     let (kids, rest) = kids_in(alloc, height, args, rest)?;
-    let rest = expect(Word::Mark(b')'), rest)?;
+    let rest = expect(CLOSE, rest)?;
     Ok((kids, rest))
 }
 
@@ -119,14 +108,14 @@ fn kids_in<'a>(
     alloc: Global,
     height: usize,
     args: &[Arg],
-    text: &'a [u8],
-) -> Result<(Vec<Tree>, &'a [u8]), ReadError>
-    ensures { Gives terms_found result (reading.kids_in (reading.term_in height) args.now text.now) }
+    words: &'a [Token],
+) -> Result<(Vec<Tree>, &'a [Token]), ReadError>
+    ensures { Gives terms_found result (reading.kids_in (reading.term_in height) args.now (kinds_of words.now)) }
 {
     let Some((arg, others)) = args.split_first() else {
-        return Ok((Vec::new(alloc), text));
+        return Ok((Vec::new(alloc), words));
     };
-    let (first, rest) = term_in(alloc, height, &arg.ty, text)?;
+    let (first, rest) = term_in(alloc, height, &arg.ty, words)?;
     others_in(alloc, height, others, first, rest)
 }
 
@@ -137,14 +126,14 @@ fn others_in<'a>(
     height: usize,
     args: &[Arg],
     first: Tree,
-    text: &'a [u8],
-) -> Result<(Vec<Tree>, &'a [u8]), ReadError>
-    ensures { Gives terms_found result
-        (behind_terms (term_of first ∷ []) (reading.others_in (reading.term_in height) args.now text.now)) }
+    words: &'a [Token],
+) -> Result<(Vec<Tree>, &'a [Token]), ReadError>
+    ensures { Gives terms_found result (behind_terms (term_of first ∷ [])
+        (reading.others_in (reading.term_in height) args.now (kinds_of words.now))) }
 {
     let mut kids = Vec::new(alloc);
     kids.push(first)?;
-    let mut rest = text;
+    let mut rest = words;
     for arg in args {
         let (kid, behind_kid) = next_in(alloc, height, arg, rest)?;
         kids.push(kid)?;
@@ -159,47 +148,45 @@ fn next_in<'a>(
     alloc: Global,
     height: usize,
     arg: &Arg,
-    text: &'a [u8],
-) -> Result<(Tree, &'a [u8]), ReadError>
-    ensures { Gives term_found result (next_in (reading.term_in height) arg.now text.now) }
+    words: &'a [Token],
+) -> Result<(Tree, &'a [Token]), ReadError>
+    ensures { Gives term_found result (next_in (reading.term_in height) arg.now (kinds_of words.now)) }
 {
-    let rest = expect(Word::Mark(b','), text)?;
+    let rest = expect(COMMA, words)?;
     term_in(alloc, height, &arg.ty, rest)
 }
 
 /// The symbol that the first word stands for, and the rest.
 #[tactic(auto, unfolding(crate::specs::inside::Reading::symbol_in))]
-fn symbol_in(alloc: Global, text: &[u8]) -> Result<(Symbol, &[u8]), ReadError>
-    ensures { Gives symbol_found result (reading.symbol_in text.now) }
+fn symbol_in(alloc: Global, words: &[Token]) -> Result<(Symbol, &[Token]), ReadError>
+    ensures { Gives symbol_found result (reading.symbol_in (kinds_of words.now)) }
 {
-    let Some((word, rest)) = word_in(text) else {
-        return Err(ReadError::NotFirst);
-    };
-    match word {
-        Word::Name(name) => match symbol_named(alloc, name)? {
-            Some(symbol) => Ok((symbol, rest)),
-            None => Err(ReadError::NotFirst),
-        },
-        Word::Real(real) => {
-            let text = Text::copy(alloc, ascii(real))?;
-            let symbol = Symbol::Real {
-                text,
-                double: false,
-            };
+    match words {
+        [first, rest @ ..] => {
+            let symbol = symbol_of(alloc, &first.kind)?;
             Ok((symbol, rest))
         }
-        Word::Mark(_) => Err(ReadError::NotFirst),
+        [] => Err(ReadError::NotFirst),
     }
 }
 
-/// ASCII bytes as a text.
-pub fn ascii(bytes: &[u8]) -> &str
-    requires { IsAscii bytes.now }
-    ensures { result.now ≡ bytes.now }
+/// The symbol that a word stands for.
+fn symbol_of(alloc: Global, word: &Kind) -> Result<Symbol, ReadError>
+    ensures { Gives (λ symbol. symbol) result (reading.symbol_of_word word.now) }
 {
-    match str::from_utf8(bytes) {
-        Ok(text) => text,
-        Err(_) => unreachable!(),
+    if let Kind::Real { text, double } = word {
+        if *double {
+            return Err(ReadError::NotFirst);
+        }
+        let text = Text::copy(alloc, text.as_str())?;
+        return Ok(Symbol::Real {
+            text,
+            double: false,
+        });
+    }
+    match symbol_named(alloc, word)? {
+        Some(symbol) => Ok(symbol),
+        None => Err(ReadError::NotFirst),
     }
 }
 

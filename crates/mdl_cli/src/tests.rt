@@ -58,16 +58,51 @@ fn words(alloc: Global, list: &[&str]) -> Result<Vec<String>, Fail> {
 fn answers_and_refusals(rt: HostRuntime) -> Result<(), Fail> {
     let alloc = rt.alloc();
     let own = ["instance", "r", "::m::m"];
-    let cases: [(&[&str], &str, Status, &str, &str); 12] = [
+    let cases: [(&[&str], &str, Status, &str, &str); 17] = [
         (&own, FIRST, Status::Done, GRAPH, ""),
         (&own, "mdl 1.60;", Status::Refused, "", "error 9 NotBuilt\n"),
         (&own, "", Status::Refused, "", "error 9 NotBuilt\n"),
+        (
+            &own,
+            "mdl 1.6;\n4294967296 $\n",
+            Status::Refused,
+            "",
+            "error 16 IntRange ::m 2:1\n",
+        ),
+        (
+            &own,
+            "mdl 1.6;\n\u{e9} \u{e9} $ 4294967296",
+            Status::Refused,
+            "",
+            "error 15 BadToken ::m 2:5\n",
+        ),
+        (
+            &own,
+            "mdl 1.6;\nexport material m() = \"ab",
+            Status::Refused,
+            "",
+            "error 15 BadToken ::m 2:23\n",
+        ),
+        (
+            &["instance", "r", "::m::\u{e9}\u{301}"],
+            FIRST,
+            Status::Refused,
+            "",
+            "error 53 MaterialUnknown request\n",
+        ),
+        (
+            &["instance", "r", "::m::\u{301}"],
+            FIRST,
+            Status::Usage,
+            "",
+            "error 1 Usage\n",
+        ),
         (
             &["instance", "r", "::m::n"],
             FIRST,
             Status::Refused,
             "",
-            "error 9 NotBuilt\n",
+            "error 53 MaterialUnknown request\n",
         ),
         (
             &["instance", "r", "::n::m"],
@@ -139,6 +174,42 @@ fn answers_and_refusals(rt: HostRuntime) -> Result<(), Fail> {
         assert_eq!(rt; diag.taken(), line.as_bytes());
     }
     one_outcome();
+    Ok(())
+}
+
+fn contains(text: &[u8], part: &[u8]) -> bool {
+    part.is_empty() || text.windows(part.len()).any(|front| front == part)
+}
+
+#[test]
+fn reals_may_have_every_form_of_a_float(rt: HostRuntime) -> Result<(), Fail> {
+    let alloc = rt.alloc();
+    let cases: [(&str, Status, &str, &str); 5] = [
+        (".5e-1f", Status::Done, "3 - float .5e-1\n", ""),
+        ("08.", Status::Done, "3 - float 08.\n", ""),
+        ("1e5F", Status::Done, "3 - float 1e5\n", ""),
+        ("1e5d", Status::Refused, "", "error 9 NotBuilt\n"),
+        ("08", Status::Refused, "", "error 15 BadToken ::m 4:61\n"),
+    ];
+    for (real, status, node, line) in cases {
+        let text = FIRST.replace(alloc, "0.0", real)?;
+        let words = words(alloc, &["instance", "r", "::m::m"])?;
+        let mut source = SteadySource::new(file(alloc, text.as_str())?);
+        let mut out = SteadySink::new(alloc, 4096)?;
+        let mut diag = SteadySink::new(alloc, 64)?;
+        let got = run(
+            &rt,
+            alloc,
+            &words,
+            &mut source,
+            &mut out,
+            &mut diag,
+            &NoGate,
+        );
+        assert_eq!(rt; got, status, "{real}");
+        assert_eq!(rt; diag.taken(), line.as_bytes());
+        assert!(rt; contains(out.taken(), node.as_bytes()), "{node}");
+    }
     Ok(())
 }
 

@@ -1,1 +1,10 @@
+pub mod Characters
 pub mod WordTables
+pub mod Strings
+pub mod Forms
+pub mod Kinds
+pub mod Steps
+pub mod Lexes
+pub mod OneLexing
+pub mod Places
+pub mod inside

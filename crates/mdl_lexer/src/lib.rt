@@ -1,8 +1,24 @@
-//! The words of a module's text: the tables of reserved words and marks.
+//! The words of a module's text, with their places; and the tables of reserved words and marks.
 #![tactic(auto)]
 
+mod cursor;
+mod lexer;
+#[cfg(test)]
+mod lexer_tests;
+pub mod mark;
+mod marks;
+mod names;
+mod numbers;
+pub mod reserved;
+mod separators;
+mod strings;
+mod token;
+mod tokens;
 mod word_tables;
 
+pub use lexer::{lex, one_lexing, one_step};
+pub use names::is_identifier;
+pub use token::{Kind, LexFault, Token};
 pub use word_tables::{
     marks_in_use, marks_left_out, numbers_are_apart, reserved_in_use, reserved_left_out,
 };

@@ -1,9 +1,9 @@
 -- Reading the words of a command line, as functions.
-use Rattle.std.specs.Prelude.{ℕ, zero, suc, ◌-◌, ◌&&◌, nat_le, nat_eq, Bool, if◌then◌else◌}
+use Rattle.std.specs.Prelude.{ℕ, zero, suc, ◌-◌, ◌&&◌, ◌==◌, not, nat_le, nat_eq, Bool, if◌then◌else◌}
 use Rattle.std.specs.Prelude.{List, [], ◌∷◌, Option, Some, None, codes, length, take, drop, slice_get}
 use Rattle.std.specs.List.{prefix_len, starts_with}
 use Rattle.std.specs.Str.{bytes_eq}
-use Rattle.mdl_cli.specs.Names.{continues_name, is_identifier}
+use Rattle.mdl_cli.specs.Names.{is_identifier}
 use Rattle.mdl_cli.specs.Request.{Request, is_root, most_word}
 use Rattle.mdl_cli.specs.inside.Reading.{◌>>=◌}
 
@@ -11,7 +11,7 @@ use Rattle.mdl_cli.specs.inside.Reading.{◌>>=◌}
 unfoldable pub part_in : List ℕ → Option (List ℕ × List ℕ)
 part_in text =
     let name = drop 2 text in
-    let end = prefix_len continues_name name in
+    let end = prefix_len (λ byte. not (byte == 58)) name in
     if starts_with nat_eq text (codes "::") && is_identifier (take end name)
     then Some (take end name, drop end name) else None
 

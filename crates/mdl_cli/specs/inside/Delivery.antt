@@ -1,6 +1,8 @@
 -- What the code finds before it writes, and what it does with it.
-use Rattle.std.specs.Prelude.{◌≡◌, ◌≢◌, ◌⊎◌, ℕ, true, false, List, [], ◌∷◌, ◌++◌}
-use Rattle.std.specs.List.{list_all}
+use Rattle.std.specs.Prelude.{◌≡◌, ◌≢◌, ◌⊎◌, ℕ, true, false, List, Result, Ok, Err}
+use Rattle.std.specs.declared.vec.Vec.{Vec}
+use Rattle.std.specs.declared.alloc.Global.{Global}
+use Rattle.std.specs.declared.alloc.AllocError.{AllocError}
 use Rattle.case_table.specs.Counts.{Rose}
 use Rattle.io_edge.specs.Source.{SourceState, File, file_at}
 use Rattle.io_edge.specs.Sink.{SinkState, WroteAll, WrotePart}
@@ -9,13 +11,15 @@ use Rattle.mdl_cli.specs.declared.status.Status.TheVariants as status
 use Rattle.mdl_cli.specs.declared.answer.Answer.{Answer}
 use Rattle.mdl_cli.specs.declared.answer.Answer.TheVariants as answer
 use Rattle.type_rules.specs.Terms.{Term}
-use Rattle.mdl_cli.specs.Names.{is_identifier}
-use Rattle.mdl_cli.specs.FirstText.{IsFirstText}
+use Rattle.mdl_lexer.specs.declared.token.Kind.{Kind}
+use Rattle.mdl_lexer.specs.declared.token.LexFault.{LexFault}
+use Rattle.mdl_lexer.specs.declared.token.LexFault.TheVariants as fault
+use Rattle.mdl_cli.specs.FirstText.{AreFirstWords, IsFirstText}
 use Rattle.mdl_cli.specs.GraphText.{instance_text}
-use Rattle.mdl_cli.specs.Outcome.{AnswersRequest, RefusesRequest}
+use Rattle.mdl_cli.specs.Outcome.{AnswersRequest, RefusesRequest, RefusesBytes}
 use Rattle.mdl_cli.specs.Request.{Request, names_command, material_name, path_of}
 use Rattle.mdl_cli.specs.Lines.{usage_line, read_fault_line, write_fault_line, out_of_memory_line}
-use Rattle.mdl_cli.specs.Lines.{not_built_line}
+use Rattle.mdl_cli.specs.Lines.{not_built_line, material_unknown_line, fault_line}
 use Rattle.mdl_cli.specs.Headline.{AnswerText, RefusalLine, MayHold}
 
 -- the cause of what was found
@@ -61,24 +65,49 @@ Delivers answer.ReadFault told out out_after diag diag_after =
 Delivers answer.OutOfMemory told out out_after diag diag_after =
     (out_after ≡ out) × Tells status.OutOfMemory out_of_memory_line told diag diag_after
 
--- each part of the request's material's name is an identifier
-abbrev pub AreIdentifiers : Request → Type 0
-AreIdentifiers request = list_all is_identifier (request.parts ++ request.material ∷ []) ≡ true
-
 -- what is found in the file of a request's module
 abbrev pub FindsIn : Request → List ℕ → Answer → Type 0
 FindsIn request bytes (answer.Text text) =
     (term : Term) × IsFirstText bytes request.material term
     × (text.items ≡ instance_text (material_name request) term)
-FindsIn request bytes answer.NotBuilt = (term : Term) → IsFirstText bytes request.material term → ⊥
+FindsIn request bytes (answer.Refused line) = RefusesBytes request bytes line.items
+FindsIn request bytes answer.NotBuilt = RefusesBytes request bytes not_built_line
 FindsIn request bytes answer.OutOfMemory = Unit {0}
 FindsIn request bytes _ = ⊥
+
+-- the words are a first text of another material, whose line this is
+pub record OtherMaterial (request : Request) (words : List Kind) (line : List ℕ) : Type 0 where
+  pub name : List ℕ
+  pub term : Term
+  pub first : AreFirstWords words name term
+  pub other : name ≢ request.material
+  pub line_is : line ≡ material_unknown_line
+
+-- what is found in the words of the file
+abbrev pub FindsInWords : Request → List Kind → Answer → Type 0
+FindsInWords request words (answer.Text text) =
+    (term : Term) × AreFirstWords words request.material term
+    × (text.items ≡ instance_text (material_name request) term)
+FindsInWords request words (answer.Refused line) = OtherMaterial request words line.items
+FindsInWords request words answer.NotBuilt = (name : List ℕ) (term : Term) → AreFirstWords words name term → ⊥
+FindsInWords request words answer.OutOfMemory = Unit {0}
+FindsInWords request words _ = ⊥
 
 -- a line, if there was memory for it
 abbrev pub IsLine : List ℕ → Answer → Type 0
 IsLine line (answer.Refused own) = own.items ≡ line
 IsLine line answer.OutOfMemory = Unit {0}
 IsLine line _ = ⊥
+
+-- the same for a line that may have failed
+abbrev pub Told : Result (Vec ℕ Global) AllocError → Answer → Type 0
+Told (Ok line) found = found ≡ answer.Refused line
+Told (Err error) found = found ≡ answer.OutOfMemory
+
+-- the line of a fault in a module's bytes, if there was memory for it
+abbrev pub RefusesFault : List ℕ → List ℕ → LexFault → Answer → Type 0
+RefusesFault name bytes fault.OutOfMemory found = found ≡ answer.OutOfMemory
+RefusesFault name bytes fault found = IsLine (fault_line name bytes fault) found
 
 -- what is found for a request over a source
 pub record FindsText (request : Request) (source : SourceState) (text : List ℕ) : Type 0 where

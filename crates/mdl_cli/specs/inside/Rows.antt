@@ -9,6 +9,8 @@ use Rattle.mdl_cli.specs.declared.forms.Field.TheVariants.{Varies, Uniform}
 use Rattle.mdl_cli.specs.declared.forms.Head.{Head}
 use Rattle.mdl_cli.specs.declared.forms.Head.TheVariants.{Truth, Value, Operation}
 use Rattle.mdl_cli.specs.declared.forms.Form.{Form}
+use Rattle.mdl_lexer.specs.declared.token.Kind.{Kind}
+use Rattle.mdl_cli.specs.Words.{named}
 use Rattle.mdl_cli.specs.FirstText.{varies, uniformly}
 
 abbrev pub field_arg : Field → Arg
@@ -21,5 +23,5 @@ form_symbol name (Value ty) = symbol.EnumValue ty.now name
 form_symbol name (Operation fields result varying) =
     symbol.Op name (map field_arg fields.now) (plain result.now) varying
 
-abbrev pub form_row : Form → List ℕ × Symbol
-form_row form = (form.name.now, form_symbol form.name.now form.head)
+abbrev pub form_row : Form → Kind × Symbol
+form_row form = (named form.name.now form.reserved, form_symbol form.name.now form.head)

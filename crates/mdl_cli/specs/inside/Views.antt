@@ -1,25 +1,27 @@
--- What values of the code stand for in the definitions.
-use Rattle.std.specs.Prelude.{ℕ, List, Bool}
+-- What values of the code stand for in the definitions of first texts.
+use Rattle.std.specs.Prelude.{ℕ, List}
 use Rattle.std.specs.Borrow.{Bor}
-use Rattle.mdl_cli.specs.declared.words.Word.{Word as Held}
-use Rattle.mdl_cli.specs.declared.words.Word.TheVariants as held
-use Rattle.mdl_cli.specs.declared.words.Class.{Class}
-use Rattle.mdl_cli.specs.declared.words.Class.TheVariants as class
-use Rattle.mdl_cli.specs.Names.{is_digit, continues_name}
-use Rattle.mdl_cli.specs.Words.{Word, Name, Real, Mark, is_separator}
+use Rattle.type_rules.specs.Terms.{Term}
+use Rattle.mdl_lexer.specs.declared.token.Kind.{Kind}
+use Rattle.mdl_lexer.specs.declared.token.Kind.TheVariants as kind
+use Rattle.mdl_lexer.specs.declared.token.Token.{Token}
+use Rattle.mdl_cli.specs.declared.words.Fixed.{Fixed}
+use Rattle.mdl_cli.specs.declared.words.Fixed.TheVariants as fixed
+use Rattle.mdl_cli.specs.declared.first_text.FirstText.{FirstText}
+use Rattle.mdl_cli.specs.Words.{kinds_of}
+use Rattle.mdl_cli.specs.inside.Trees.{term_of}
 
--- a word without where it stands
-abbrev pub word_value : Held → Word
-word_value (held.Name text) = Name text.now
-word_value (held.Real text) = Real text.now
-word_value (held.Mark byte) = Mark byte
+abbrev pub fixed_word : Fixed → Kind
+fixed_word (fixed.Reserved number) = kind.Reserved number
+fixed_word (fixed.Mark number) = kind.Mark number
 
--- a word and the rest
-abbrev pub word_found : Held × Bor (List ℕ) → Word × List ℕ
-word_found found = (word_value found.0, found.1.now)
+-- the words that are left
+abbrev pub words_left : Bor (List Token) → List Kind
+words_left tokens = kinds_of tokens.now
 
--- the bytes of a class
-abbrev pub has_class : Class → ℕ → Bool
-has_class class.Separator = is_separator
-has_class class.Digit = is_digit
-has_class class.Name = continues_name
+-- a name and the words that are left
+abbrev pub name_found : Bor (List ℕ) × Bor (List Token) → List ℕ × List Kind
+name_found found = (found.0.now, kinds_of found.1.now)
+
+abbrev pub first_found : FirstText → List ℕ × Term
+first_found first = (first.name.now, term_of first.tree)

@@ -1,15 +1,10 @@
 use Rattle.std.proofs.Common.{◌∙◌, sym}
-use Rattle.mdl_cli.proofs.RequestLaws.{request_in_sound}
 use Rattle.mdl_cli.proofs.FindLaws.{finds_asked, finds_usage, unnamed_none, unread_none}
 use Rattle.mdl_cli.proofs.find.find_answer.Goals as goal
 
 pub returns-then-not-names_command : goal.returns-then-not-names_command
 returns-then-not-names_command g c =
     finds_usage _ _ _ (unnamed_none _ (sym c.names_command.ensures ∙ c.if-not-names_command.true))
-
-pub find_instance-requires : goal.find_instance-requires
-find_instance-requires g c =
-    (request_in_sound _ _ (sym (rw c.in-Ok-Some.field-0-is at c.in-Ok-Some.ensures))).names
 
 pub returns-in-Ok-Some : goal.returns-in-Ok-Some
 returns-in-Ok-Some g c =

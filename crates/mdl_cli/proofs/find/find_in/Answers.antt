@@ -1,17 +1,21 @@
-use Rattle.std.proofs.Common.{◌∙◌, ap, sym, subst, ℕ, List, Err}
-use Rattle.mdl_cli.specs.Names.{is_identifier}
-use Rattle.mdl_cli.specs.FirstText.{IsFirstText}
-use Rattle.mdl_cli.specs.inside.Asked.{parts_found}
-use Rattle.mdl_cli.proofs.OutcomeLaws.{material_identifier}
+use Rattle.std.proofs.Common.{subst, List}
+use Rattle.mdl_lexer.specs.declared.token.Token.{Token}
+use Rattle.mdl_cli.specs.Words.{kinds_of}
+use Rattle.mdl_cli.specs.inside.Asked.{request_value}
+use Rattle.mdl_cli.specs.inside.Delivery.{FindsInWords}
+use Rattle.mdl_cli.proofs.FindLaws.{words_found, fault_found}
 use Rattle.mdl_cli.proofs.find.find_in.Goals as goal
 
-pub read_first-requires : goal.read_first-requires
-read_first-requires c =
-    ap is_identifier c.material.ensures
-    ∙ material_identifier (parts_found c.args.request.now.parts) c.args.request.now.material.now c.requires
+pub returns-in-Ok : goal.returns-in-Ok
+returns-in-Ok c =
+    words_found (request_value c.args.request.now) c.args.bytes.now c.in-Ok.tokens.items
+    c.find_in_words.result
+    c.in-Ok.ensures.tokens
+    (subst (λ (tokens : List Token). FindsInWords (request_value c.args.request.now) (kinds_of tokens)
+    c.find_in_words.result)
+    c.deref.ensures.value c.find_in_words.ensures)
 
-pub returns-in-Err-NotFirst : goal.returns-in-Err-NotFirst
-returns-in-Err-NotFirst c = λ term first.
-    c.read_first.ensures.not_first
-    (c.in-Err-NotFirst.is ∙ ap (λ error. Err error) c.in-Err-NotFirst.field-0-is) term
-    (subst (λ (name : List ℕ). IsFirstText c.args.bytes.now name term) (sym c.material.ensures) first)
+pub returns-in-Err : goal.returns-in-Err
+returns-in-Err c =
+    fault_found (request_value c.args.request.now) c.args.bytes.now c.in-Err.fault c.refuse_words.result
+    c.in-Err.ensures.fault c.refuse_words.ensures

@@ -1,7 +1,7 @@
 use Rattle.std.proofs.Common.{◌∙◌, subst, ℕ, List}
 use Rattle.mdl_cli.specs.inside.Asked.{request_value}
 use Rattle.mdl_cli.specs.inside.Delivery.{FindsIn}
-use Rattle.mdl_cli.proofs.FindLaws.{at_found, at_absent, at_too_long}
+use Rattle.mdl_cli.proofs.FindLaws.{at_found, at_absent, at_too_long, told_line}
 use Rattle.mdl_cli.proofs.find.find_instance.Goals as goal
 
 pub returns-in-Found : goal.returns-in-Found
@@ -15,10 +15,11 @@ pub returns-in-Absent : goal.returns-in-Absent
 returns-in-Absent g c =
     at_absent (request_value c.args.request.now) _ _ _ _ (c.as_str.ensures.value ∙ c.in-Ok.ensures)
     c.in-Absent.ensures
-    c.absent.ensures
+    (told_line _ c.absent_line.result c.refused.result c.absent_line.ensures c.refused.ensures)
 
 pub returns-in-TooLong : goal.returns-in-TooLong
 returns-in-TooLong g c =
     at_too_long (request_value c.args.request.now) _ _ _ _ (c.as_str.ensures.value ∙ c.in-Ok.ensures)
     c.in-TooLong.ensures
-    c.too_long.ensures
+    (told_line _ c.too_long_line.result c.refused-in-TooLong.result c.too_long_line.ensures
+    c.refused-in-TooLong.ensures)

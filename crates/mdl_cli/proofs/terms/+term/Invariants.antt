@@ -1,5 +1,6 @@
 -- A term's kids are read with one height less, and what is left of them reads as all did.
 use Rattle.std.proofs.Common.{◌≡◌, ◌+◌, ◌*◌, [], ◌∷◌, drop, map}
+use Rattle.mdl_cli.specs.Words.{kinds_of}
 use Rattle.mdl_cli.specs.inside.Reading as reading
 use Rattle.mdl_cli.specs.inside.Trees.{term_of}
 use Rattle.mdl_cli.specs.inside.Gives.{behind_terms}
@@ -26,5 +27,6 @@ decreases-under l = 8 * l.height + 5
 abbrev pub invariant-others_in-loop-arg : goal.invariant-others_in-loop-arg
 invariant-others_in-loop-arg l =
     behind_terms (map term_of l.kids.items)
-    (reading.others_in (reading.term_in l.height) (drop l.arg-index l.args) l.rest)
-    ≡ behind_terms (term_of l.fn.first ∷ []) (reading.others_in (reading.term_in l.height) l.args l.fn.text)
+    (reading.others_in (reading.term_in l.height) (drop l.arg-index l.args) (kinds_of l.rest))
+    ≡ behind_terms (term_of l.fn.first ∷ [])
+    (reading.others_in (reading.term_in l.height) l.args (kinds_of l.fn.words))

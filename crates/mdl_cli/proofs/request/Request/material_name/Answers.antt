@@ -8,7 +8,8 @@ use Rattle.mdl_cli.proofs.request.Request.material_name.Goals as goal
 pub returns : goal.returns
 returns c =
     c.in_ok-extend_from_slice-2.ensures.items
-    ∙ (ap (λ (name : List ℕ). name ++ c.args.self.now.material.now)
+    ∙ (ap (λ (own : List ℕ). c.extend_from_slice.new.self.items ++ own) c.as_bytes.ensures.value
+    ∙ ap (λ (name : List ℕ). name ++ c.args.self.now.material.now)
     (c.in_ok-extend_from_slice.ensures.items
     ∙ ap (λ (name : List ℕ). name ++ codes "::")
     (c.in_ok-push_module_name.ensures

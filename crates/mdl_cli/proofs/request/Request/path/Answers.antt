@@ -3,14 +3,8 @@ use Rattle.std.specs.List.{flat_map}
 use Rattle.mdl_cli.specs.inside.Asked.{parts_found}
 use Rattle.std.specs.Prelude.{codes}
 use Rattle.std.proofs.lemmas.List.{append_assoc}
-use Rattle.mdl_cli.proofs.PartLaws.{all_parts, part-ascii}
+use Rattle.mdl_cli.proofs.PartLaws.{all_parts}
 use Rattle.mdl_cli.proofs.request.Request.path.Goals as goal
-
-pub ascii-requires : goal.ascii-requires
-ascii-requires c =
-    rw c.deref-part-items.ensures.value
-    (part-ascii c.args.self.now.parts.items c.loop-part.part-index _
-    (omega (arith, ap length c.deref-part-items.ensures.value)) c.requires)
 
 pub returns : goal.returns
 returns c =

@@ -1,0 +1,10 @@
+pub mod Classes
+pub mod Cutting
+pub mod Numbers
+pub mod Reading
+pub mod Strings
+pub mod Tokens
+pub mod Reads
+pub mod Lexing
+pub mod Separators
+pub mod Singles
