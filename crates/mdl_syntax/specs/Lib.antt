@@ -1,0 +1,6 @@
+pub mod Words
+pub mod Trees
+pub mod Written
+pub mod Heights
+pub mod Placed
+pub mod inside

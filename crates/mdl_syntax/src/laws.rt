@@ -1,0 +1,10 @@
+ghost use Rattle.std.specs.Prelude.{◌≡◌, List};
+ghost use Rattle.mdl_lexer.specs.declared.token.Token.{Token};
+ghost use Rattle.mdl_syntax.specs.Trees.{Tree};
+ghost use Rattle.mdl_syntax.specs.Written.{write};
+ghost use Rattle.mdl_syntax.specs.Placed.{placed};
+
+/// The law that places change no word.
+pub fn places_change_no_word()
+    ensures { (tree : Tree) (tokens : List Token) → write (placed tree tokens) ≡ write tree }
+{}

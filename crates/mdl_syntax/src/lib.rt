@@ -1,0 +1,23 @@
+//! The trees of modules, each part with the place where it stands; and the words that an expression writes.
+#![tactic(auto)]
+
+mod declarations;
+mod expressions;
+mod imports;
+mod laws;
+mod modules;
+mod names;
+mod types;
+mod words;
+mod write;
+#[cfg(test)]
+mod write_tests;
+
+pub use declarations::{Anno, Decl, EnumItem, Param};
+pub use expressions::{Argument, Expr, LetInit, Lit};
+pub use imports::{Import, Lead, ModuleRef, Qualified};
+pub use laws::places_change_no_word;
+pub use modules::{Module, VersionLit};
+pub use names::{Ident, Name, NameForm, Span};
+pub use types::{Freq, Size, TypeTree};
+pub use write::write_expr;
