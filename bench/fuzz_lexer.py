@@ -13,13 +13,16 @@ import collections
 import os
 import random
 import re
-import shutil
 import subprocess
 import sys
 import tempfile
 import unicodedata
 
-TOP = os.path.dirname(os.path.dirname(os.path.abspath(__file__)))
+sys.dont_write_bytecode = True
+
+import program
+from program import TOP
+
 CRATES = ("case_table", "mdl_lexer")
 MOST_INTEGER = 4294967295
 ESCAPES = {"a": 7, "b": 8, "f": 12, "n": 10, "r": 13, "t": 9, "v": 11, "\\": 92, "'": 39, '"': 34}
@@ -243,22 +246,8 @@ def long_texts(count, seed):
 
 def build(folder):
     """A program around `lex`, from copies of the crates."""
-    with open(os.path.join(folder, "crates.txt"), "w") as file:
-        with open(os.path.join(TOP, "crates.txt")) as own:
-            file.writelines(line for line in own if line.split(":")[0].split(" ")[0] in CRATES)
-        file.write("lexer_dump: mdl_lexer\n")
-    for crate in CRATES:
-        shutil.copytree(os.path.join(TOP, "crates", crate), os.path.join(folder, "crates", crate),
-                        ignore=shutil.ignore_patterns("must-fail"))
-    source = os.path.join(folder, "crates", "lexer_dump", "src")
-    os.makedirs(source)
-    shutil.copy(os.path.join(TOP, "bench", "lexer", "dump.txt"), os.path.join(source, "main.rt"))
-    crate = os.path.dirname(source)
-    done = subprocess.run(["rt", "run"], cwd=crate, stdin=subprocess.DEVNULL, capture_output=True, text=True)
-    program = os.path.join(crate, "out", "lexer_dump")
-    if not os.access(program, os.X_OK):
-        sys.exit(f"not built:\n{done.stdout[-3000:]}{done.stderr[-3000:]}")
-    return program
+    program.copy_crates(folder, CRATES)
+    return program.build(folder, "lexer_dump", ["mdl_lexer"], os.path.join(TOP, "bench", "lexer", "dump.txt"))
 
 
 def main():
@@ -267,9 +256,9 @@ def main():
     cases = texts(count, seed)
     long_cases = long_texts(count // 100, seed)
     with tempfile.TemporaryDirectory(prefix="mdl-fuzz-") as folder:
-        program = build(folder)
+        reader = build(folder)
         lines = "".join(case.hex() + "\n" for case in cases + long_cases)
-        done = subprocess.run([program], input=lines, capture_output=True, text=True, timeout=600)
+        done = subprocess.run([reader], input=lines, capture_output=True, text=True, timeout=600)
     if done.returncode != 0:
         sys.exit(f"the program ended with {done.returncode}: {done.stderr[-500:]}")
     answers = done.stdout.split("\n")[:-1]

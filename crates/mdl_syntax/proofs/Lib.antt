@@ -1,3 +1,4 @@
 pub mod PieceLaws
 pub mod TreeLaws
 pub mod PlacedLaws
+pub mod PlacedTwice

@@ -37,7 +37,7 @@ form_written (form.Parts true parts) tokens =
 form_written (form.Parts false parts) tokens = parts_written parts tokens
 form_written (form.Word number) tokens = refl
 
-name_written : (name : Name) (tokens : List Token) → name_words (placed_name name tokens) ≡ name_words name
+pub name_written : (name : Name) (tokens : List Token) → name_words (placed_name name tokens) ≡ name_words name
 name_written name tokens = form_written name.form tokens
 
 size_written : (own : Size) (tokens : List Token) → size_words (placed_size own tokens) ≡ size_words own
@@ -45,11 +45,11 @@ size_written size.One tokens = refl
 size_written (size.Sized number) tokens = refl
 size_written (size.Deferred name) tokens = refl
 
-type_written : (ty : TypeTree) (tokens : List Token) → type_words (placed_type ty tokens) ≡ type_words ty
+pub type_written : (ty : TypeTree) (tokens : List Token) → type_words (placed_type ty tokens) ≡ type_words ty
 type_written ty tokens = λ i.
     name_written ty.name tokens i ++ size_written ty.size (behind (name_words ty.name) 0 tokens) i
 
-label_written : (name : Option Ident) (tokens : List Token) →
+pub label_written : (name : Option Ident) (tokens : List Token) →
     label_words (placed_label name tokens) ≡ label_words name
 label_written None tokens = refl
 label_written (Some name) tokens = refl
@@ -130,7 +130,7 @@ mutual
       ++ (written value (tokens_of (write value) (behind (label_words name) 0 tokens)) i
       ++ more_arguments_written arguments (behind own 1 tokens) i))
 
-  initializers_written : (initializers : Initializers) (tokens : List Token) →
+  pub initializers_written : (initializers : Initializers) (tokens : List Token) →
       write_initializers (placed_initializers initializers tokens) ≡ write_initializers initializers
   initializers_written no_initializers tokens = refl
   initializers_written (initializer_and frequency ty name value span initializers) tokens =

@@ -1,5 +1,5 @@
 -- The places of a tree's parts among the tokens that it writes.
-use Rattle.std.specs.Prelude.{ℕ, ◌+◌, List, [], ◌∷◌, ◌++◌, Option, Some, None, length, take, drop}
+use Rattle.std.specs.Prelude.{◌≡◌, ℕ, ◌+◌, List, [], ◌∷◌, ◌++◌, Option, Some, None, length, take, drop}
 use Rattle.std.specs.Prelude.{if◌then◌else◌}
 use Rattle.mdl_lexer.specs.declared.token.Kind.{Kind}
 use Rattle.mdl_lexer.specs.declared.token.Token.{Token}
@@ -125,3 +125,7 @@ abbrev mutual
       initializer_and frequency (placed_type ty at_type) (placed_ident name at_name)
       (placed value (tokens_of (write value) at_value)) (place_of (take (length own + 3) tokens))
       (placed_initializers initializers (behind own 3 tokens))
+
+-- trees that differ in their places alone
+abbrev pub IsSameButPlaces : Tree → Tree → Type 0
+IsSameButPlaces one other = (tokens : List Token) → placed one tokens ≡ placed other tokens

@@ -2,9 +2,14 @@ ghost use Rattle.std.specs.Prelude.{◌≡◌, List};
 ghost use Rattle.mdl_lexer.specs.declared.token.Token.{Token};
 ghost use Rattle.mdl_syntax.specs.Trees.{Tree};
 ghost use Rattle.mdl_syntax.specs.Written.{write};
-ghost use Rattle.mdl_syntax.specs.Placed.{placed};
+ghost use Rattle.mdl_syntax.specs.Placed.{placed, IsSameButPlaces};
 
 /// The law that places change no word.
 pub fn places_change_no_word()
     ensures { (tree : Tree) (tokens : List Token) → write (placed tree tokens) ≡ write tree }
+{}
+
+/// The law that places don't look at the places before.
+pub fn places_come_from_tokens()
+    ensures { (tree : Tree) (tokens : List Token) → IsSameButPlaces (placed tree tokens) tree }
 {}

@@ -16,7 +16,7 @@ mod write_tests;
 pub use declarations::{Anno, Decl, EnumItem, Param};
 pub use expressions::{Argument, Expr, LetInit, Lit};
 pub use imports::{Import, Lead, ModuleRef, Qualified};
-pub use laws::places_change_no_word;
+pub use laws::{places_change_no_word, places_come_from_tokens};
 pub use modules::{Module, VersionLit};
 pub use names::{Ident, Name, NameForm, Span};
 pub use types::{Freq, Size, TypeTree};

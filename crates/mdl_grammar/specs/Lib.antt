@@ -1,0 +1,5 @@
+pub mod Opens
+pub mod Faults
+pub mod Readings
+pub mod inside
+pub mod Answers
