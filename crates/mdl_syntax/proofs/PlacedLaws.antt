@@ -23,7 +23,7 @@ use Rattle.mdl_syntax.specs.Trees.{field, call, array, binding, Trees, no_trees,
 use Rattle.mdl_syntax.specs.Trees.{Arguments, no_arguments, argument_and, Initializers, no_initializers}
 use Rattle.mdl_syntax.specs.Trees.{initializer_and}
 
-parts_written : (parts : List Ident) (tokens : List Token) →
+pub parts_written : (parts : List Ident) (tokens : List Token) →
     parts_words (placed_parts parts tokens) ≡ parts_words parts
 parts_written [] tokens = refl
 parts_written (part ∷ []) tokens = refl
@@ -112,7 +112,7 @@ mutual
       mark_word (codes ",") ∷ (written tree (tokens_of (write tree) tokens) i
       ++ more_trees_written trees (behind (write tree) 1 tokens) i)
 
-  arguments_written : (arguments : Arguments) (tokens : List Token) →
+  pub arguments_written : (arguments : Arguments) (tokens : List Token) →
       write_arguments (placed_arguments arguments tokens) ≡ write_arguments arguments
   arguments_written no_arguments tokens = refl
   arguments_written (argument_and name value span arguments) tokens =

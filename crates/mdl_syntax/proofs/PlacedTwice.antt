@@ -21,7 +21,7 @@ use Rattle.mdl_syntax.specs.Trees.{initializer_and}
 use Rattle.mdl_syntax.proofs.PlacedLaws.{name_written, type_written, label_written, written}
 use Rattle.mdl_syntax.proofs.PlacedLaws.{initializers_written}
 
-parts_twice : (parts : List Ident) (tokens other : List Token) →
+pub parts_twice : (parts : List Ident) (tokens other : List Token) →
     placed_parts (placed_parts parts tokens) other ≡ placed_parts parts other
 parts_twice [] tokens other = refl
 parts_twice (part ∷ parts) tokens other =
@@ -35,7 +35,7 @@ form_twice (form.Parts false parts) tokens other =
     ap (form.Parts false) (parts_twice parts tokens other)
 form_twice (form.Word number) tokens other = refl
 
-name_twice : (name : Name) (tokens other : List Token) →
+pub name_twice : (name : Name) (tokens other : List Token) →
     placed_name (placed_name name tokens) other ≡ placed_name name other
 name_twice name tokens other = λ i. record {
   form = form_twice name.form tokens other i;
@@ -48,7 +48,7 @@ size_twice size.One tokens other = refl
 size_twice (size.Sized number) tokens other = refl
 size_twice (size.Deferred name) tokens other = refl
 
-type_twice : (ty : TypeTree) (tokens other : List Token) →
+pub type_twice : (ty : TypeTree) (tokens other : List Token) →
     placed_type (placed_type ty tokens) other ≡ placed_type ty other
 type_twice ty tokens other = λ i. record {
   name = name_twice ty.name tokens other i;
@@ -138,7 +138,7 @@ mutual
       tree_and (placed_twice tree of_tree (tokens_of (written tree of_tree i) other) i)
       (trees_twice trees of_more (behind (written tree of_tree i) 1 other) i)
 
-  arguments_twice : (arguments : Arguments) (tokens other : List Token) →
+  pub arguments_twice : (arguments : Arguments) (tokens other : List Token) →
       placed_arguments (placed_arguments arguments tokens) other ≡ placed_arguments arguments other
   arguments_twice no_arguments tokens other = refl
   arguments_twice (argument_and name value span arguments) tokens other =

@@ -5,4 +5,9 @@ pub mod Heights
 pub mod Placed
 pub mod Levels
 pub mod Levelled
+pub mod Modules
+pub mod WrittenModules
+pub mod LevelledModules
+pub mod AcceptedModules
+pub mod PlacedModules
 pub mod inside

@@ -83,8 +83,9 @@ pub fn push_name(alloc: Global, kinds: &mut Vec<Kind>, name: &Name) -> Result<()
     }
 }
 
+/// Appends the parts of a name, with `::` between them.
 #[tactic(auto, using(crate::proofs::PieceLaws::piece_laws))]
-fn push_parts(alloc: Global, kinds: &mut Vec<Kind>, parts: &[Ident]) -> Result<(), AllocError>
+pub fn push_parts(alloc: Global, kinds: &mut Vec<Kind>, parts: &[Ident]) -> Result<(), AllocError>
     ensures { OnOk result (kinds.new.items ≡ kinds.old.items ++ words.parts_words parts.now) }
 {
     let Some((first, others)) = parts.split_first() else {

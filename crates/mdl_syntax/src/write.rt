@@ -136,12 +136,13 @@ fn push_trees(alloc: Global, kinds: &mut Vec<Kind>, trees: &[Expr]) -> Result<()
 /// Appends arguments, with commas between them.
 #[cycle(write)]
 #[tactic(auto, using(crate::proofs::PieceLaws::piece_laws))]
-fn push_arguments(
+pub(crate) fn push_arguments(
     alloc: Global,
     kinds: &mut Vec<Kind>,
     arguments: &[Argument],
 ) -> Result<(), AllocError>
-    ensures { OnOk result (kinds.new.items ≡ kinds.old.items ++ write_arguments (arguments_of (map argument_of arguments.now))) }
+    ensures { OnOk result
+        (kinds.new.items ≡ kinds.old.items ++ write_arguments (arguments_of (map argument_of arguments.now))) }
 {
     let Some((first, others)) = arguments.split_first() else {
         return Ok(());
@@ -175,7 +176,9 @@ fn push_initializers(
     kinds: &mut Vec<Kind>,
     initializers: &[LetInit],
 ) -> Result<(), AllocError>
-    ensures { OnOk result (kinds.new.items ≡ kinds.old.items ++ write_initializers (initializers_of (map initializer_of initializers.now))) }
+    ensures { OnOk result
+        (kinds.new.items ≡ kinds.old.items ++
+        write_initializers (initializers_of (map initializer_of initializers.now))) }
 {
     for initializer in initializers {
         push_initializer(alloc, kinds, initializer)?;

@@ -14,14 +14,14 @@ use std::fmt::Write;
 use std::process::Abort;
 use std::test::Fail;
 
-const SPAN: Span = Span { at: 0, end: 0 };
+pub(crate) const SPAN: Span = Span { at: 0, end: 0 };
 
-fn ident(alloc: Global, text: &str) -> Result<Ident, AllocError> {
+pub(crate) fn ident(alloc: Global, text: &str) -> Result<Ident, AllocError> {
     let text = Text::copy(alloc, text)?;
     Ok(Ident { text, span: SPAN })
 }
 
-fn name(alloc: Global, absolute: bool, parts: &[&str]) -> Result<Name, AllocError> {
+pub(crate) fn name(alloc: Global, absolute: bool, parts: &[&str]) -> Result<Name, AllocError> {
     let mut idents = Vec::new(alloc);
     for part in parts {
         let ident = ident(alloc, part)?;
@@ -34,7 +34,7 @@ fn name(alloc: Global, absolute: bool, parts: &[&str]) -> Result<Name, AllocErro
     })
 }
 
-fn float() -> Name {
+pub(crate) fn float() -> Name {
     Name {
         form: NameForm::Word(reserved::FLOAT),
         span: SPAN,
@@ -51,7 +51,7 @@ fn named(name: Name) -> Expr {
     Expr::Name { name, span: SPAN }
 }
 
-fn variable(alloc: Global, text: &str) -> Result<Expr, AllocError> {
+pub(crate) fn variable(alloc: Global, text: &str) -> Result<Expr, AllocError> {
     let name = name(alloc, false, &[text])?;
     Ok(named(name))
 }
@@ -62,7 +62,11 @@ fn boxed(alloc: Global, text: &str) -> Result<Box<Expr>, AllocError> {
     Ok(tree)
 }
 
-fn argument(alloc: Global, name: Option<Ident>, value: &str) -> Result<Argument, AllocError> {
+pub(crate) fn argument(
+    alloc: Global,
+    name: Option<Ident>,
+    value: &str,
+) -> Result<Argument, AllocError> {
     let value = variable(alloc, value)?;
     Ok(Argument {
         name,
@@ -207,7 +211,7 @@ fn unbraced(alloc: Global) -> Result<Expr, AllocError> {
 }
 
 // The words in short.
-fn told(alloc: Global, kinds: &[Kind]) -> Result<String, Fail> {
+pub(crate) fn told(alloc: Global, kinds: &[Kind]) -> Result<String, Fail> {
     let mut told = String::new(alloc);
     for kind in kinds {
         match kind {
