@@ -30,13 +30,16 @@ def edit(folder, path, old, new):
         file.write(text.replace(old, new))
 
 
-def build(folder, name, libraries, main):
-    """The built program of this main file, over the copies of crates in the folder."""
+def build(folder, name, libraries, main, modules=()):
+    """The built program of this main file and of files of its modules, over the copies of crates in the folder."""
     with open(os.path.join(folder, "crates.txt"), "a") as file:
         file.write(f"{name}: {' '.join(libraries)}\n")
     crate = os.path.join(folder, "crates", name)
     os.makedirs(os.path.join(crate, "src"))
     shutil.copy(main, os.path.join(crate, "src", "main.rt"))
+    for path in modules:
+        module = os.path.splitext(os.path.basename(path))[0]
+        shutil.copy(path, os.path.join(crate, "src", f"{module}.rt"))
     done = subprocess.run(["rt", "run"], cwd=crate, stdin=subprocess.DEVNULL, capture_output=True, text=True)
     program = os.path.join(crate, "out", name)
     if not os.access(program, os.X_OK):

@@ -16,8 +16,7 @@ MB = 1 << 20
 SIZES = (MB, 4 * MB)
 RUNS = 5
 PIECE = 1 << 16
-# Names, numbers and marks, as a module of small functions has them.
-DENSE = b"export float scale_12(float x, float y0 = 1.5) = x * 2 + y0 >= 0x1f;\n"
+FUNCTION = b"export float scale_12(float x, float y0 = 1.5) = x * 2 + y0 >= 0x1f;\n"
 
 # Exit numbers of the program.
 DONE = 0
@@ -51,7 +50,7 @@ def inputs(text):
         ("separators in front", b"", b"\n", text, DONE),
         ("a comment", b"/*", b"c", b"*/" + text, DONE),
         ("a long real", text[:end_of_real], b"0", text[end_of_real:], DONE),
-        ("dense tokens", b"", DENSE, b"", REFUSED),
+        ("functions", b"mdl 1.6;\n", FUNCTION, b"", REFUSED),
         ("a single identifier", b"", b"m", b"", REFUSED),
         ("a single string", b'"', b"s", b'"', REFUSED),
         ("marks and blanks", b"", b"( ", b"", REFUSED),

@@ -9,6 +9,7 @@ answers all of them at once, and `definition.py` each by itself.
 """
 
 import collections
+import functools
 import multiprocessing
 import os
 import random
@@ -128,18 +129,20 @@ def chain(rng, count, operators):
     return made
 
 
-def mutated(rng, words):
-    """The words with a few of them dropped, swapped, put in or replaced, or cut off."""
+def mutated(rng, words, common=COMMON):
+    """The words with a few of them dropped, swapped, repeated, put in or replaced, or cut off."""
     words = list(words)
     for _ in range(rng.choice([0, 0, 0, 1, 1, 2, 3])):
-        place, kind = rng.randrange(len(words) + 1), rng.randrange(4)
-        other = rng.choice(COMMON if rng.random() < 0.8 else sorted(LEFT_OUT))
+        place, kind = rng.randrange(len(words) + 1), rng.randrange(5)
+        other = rng.choice(common if rng.random() < 0.8 else sorted(LEFT_OUT))
         if kind == 0:
             words.insert(place, other)
         elif place < len(words) and kind == 1:
             words[place] = other
         elif place < len(words) and kind == 2:
             del words[place]
+        elif place < len(words) and kind == 3:
+            words.insert(place, words[place])
         elif place + 1 < len(words):
             words[place:place + 2] = [words[place + 1], words[place]]
     return words[:rng.randrange(len(words) + 1)] if rng.random() < 0.1 else words
@@ -160,26 +163,31 @@ def words_of_a_tree(rng, height):
             return made
 
 
-def case(rng, from_a_tree):
-    """A limit, words, the text that they stand in, and the places of their bytes."""
-    height = rng.randrange(1, 6)
-    words = words_of_a_tree(rng, height) if from_a_tree else random_words(rng)
-    limit = rng.choice([height, height, max(1, height - 1), rng.randrange(1, 6), rng.choice([5, 400])])
+def laid_out(rng, words):
+    """A text of one line in which the words stand, and the places of their bytes."""
     text, places = rng.choice(["", "", " "]), []
     for word in words:
         at = len(text.encode("utf-8"))
         text += word
         places.append((at, at + len(word.encode("utf-8"))))
         text += rng.choice(SEPARATORS)
-    return limit, words, text, places
+    return text, places
+
+
+def case(rng, from_a_tree):
+    """A limit, words, the text that they stand in, and the places of their bytes."""
+    height = rng.randrange(1, 6)
+    words = words_of_a_tree(rng, height) if from_a_tree else random_words(rng)
+    limit = rng.choice([height, height, max(1, height - 1), rng.randrange(1, 6), rng.choice([5, 400])])
+    return limit, words, *laid_out(rng, words)
 
 
 # ---- the comparison
 
-def expected(made):
+def expected(readings, made):
     """What the definition gives: one reading, or what is wrong with it."""
     limit, words, _, places = made
-    found = definition.readings(words, places, limit)
+    found = readings(words, places, limit)
     return found[0] if len(found) == 1 else f"{len(found)} readings: {found}"
 
 
@@ -191,12 +199,12 @@ def kind_of(told, words):
     return "deep at the end" if kind == "deep" and more[0] == str(len(words)) else kind
 
 
-def answers(program, cases, folder):
+def answers(program, mode, cases, folder):
     """What the program answers to each text."""
     path = os.path.join(folder, "texts")
     with open(path, "w", encoding="utf-8", newline="") as file:
         file.writelines(f"{limit} {text}\n" for limit, _, text, _ in cases)
-    done = subprocess.run([program, "trees", path], capture_output=True, timeout=600)
+    done = subprocess.run([program, mode, path], capture_output=True, timeout=600)
     told = done.stdout.decode("utf-8").split("\n")[:-1]
     if done.returncode != 0 or len(told) != len(cases):
         sys.exit(f"the program ended with {done.returncode}, {len(told)} answers to {len(cases)} texts: "
@@ -204,32 +212,47 @@ def answers(program, cases, folder):
     return told
 
 
-def compare(cases, told):
-    """Prints each difference; gives how many there are, and how often each answer came."""
-    counts, differ = collections.Counter(), 0
+def compare(cases, told, readings, kind_of):
+    """How often each answer came, and by the kinds of both answers what differs."""
+    counts, differences = collections.Counter(), collections.defaultdict(list)
     with multiprocessing.Pool() as pool:
-        for made, answer, wanted in zip(cases, told, pool.imap(expected, cases, 500)):
-            counts[kind_of(answer, made[1])] += 1
-            if answer != wanted:
-                differ += 1
-                print(f"{made[0]} {made[2]!r}\n  expected {wanted}\n  got      {answer}")
-    return differ, counts
+        for made, got, wanted in zip(cases, told, pool.imap(functools.partial(expected, readings), cases, 500)):
+            limit, words, text, _ = made
+            counts[kind_of(got, words)] += 1
+            if got != wanted:
+                differences[kind_of(wanted, words), kind_of(got, words)].append((len(words), limit, text, wanted, got))
+    return counts, differences
 
 
-def main():
+def show(differences):
+    """Prints for each kind of difference how many texts have it, and the shortest of them."""
+    for (wanted_kind, got_kind), found in sorted(differences.items()):
+        _, limit, text, wanted, got = min(found)
+        print(f"{len(found)} texts: expected {wanted_kind}, got {got_kind}\n  {limit} {text!r}\n"
+              f"  expected {wanted}\n  got      {got}")
+
+
+def run(mode, make, readings, kind_of):
     """Makes the texts, asks the program, and compares."""
     count = int(sys.argv[1]) if len(sys.argv) > 1 else 100000
     seed = int(sys.argv[2]) if len(sys.argv) > 2 else 1
-    rng = random.Random(seed)
-    cases = [case(rng, place % 2 == 1) for place in range(count)]
+    cases = make(count, seed)
     with tempfile.TemporaryDirectory(prefix="mdl-compare-") as folder:
         program = os.path.abspath(sys.argv[3]) if len(sys.argv) > 3 else reader.build(folder)
-        told = answers(program, cases, folder)
-    differ, counts = compare(cases, told)
+        told = answers(program, mode, cases, folder)
+    counts, differences = compare(cases, told, readings, kind_of)
+    show(differences)
     print(f"{count} texts compared, seed {seed}: "
-          + ", ".join(f"{kind} {number}" for kind, number in sorted(counts.items())) + f"; {differ} differ")
-    sys.exit(1 if differ else 0)
+          + ", ".join(f"{kind} {number}" for kind, number in sorted(counts.items()))
+          + f"; {sum(map(len, differences.values()))} differ")
+    sys.exit(1 if differences else 0)
+
+
+def cases(count, seed):
+    """Random words and words of trees by turns."""
+    rng = random.Random(seed)
+    return [case(rng, place % 2 == 1) for place in range(count)]
 
 
 if __name__ == "__main__":
-    main()
+    run("trees", cases, definition.readings, kind_of)

@@ -3,7 +3,7 @@
 The forms are listed once, in `productions`, after crates/mdl_syntax/specs: what each writes (Written), the level
 that its parts have at least (Levelled, Levels) and its height (Heights). A `Search` goes through them for a list of
 words, cut at each place: behind a cut any word may follow. So it finds with the same steps which words are an
-expression, and which begin one. `readings` is crates/mdl_grammar/specs/{Opens,Faults,Readings} on top of it, and
+expression, and which begin one. `readings` is crates/expression_grammar/specs/{Opens,Faults,Readings} on top of it, and
 `placed` is crates/mdl_syntax/specs/Placed. Nothing here reads words from left to right with a state.
 """
 
@@ -45,7 +45,7 @@ def classes(word):
         return frozenset(["identifier"])
     if fuzz_lexer.integer(word) is not None:
         return frozenset(["literal", "number"])
-    return frozenset(["literal"])
+    return frozenset(["literal", "string literal" if fuzz_lexer.real(word) is None else "real"])
 
 
 # ---- the forms. A symbol is a word's class, or a tuple of what is meant, a level or a flag, and the most height.
@@ -128,6 +128,10 @@ def is_word(symbol):
     return isinstance(symbol, str) or symbol[0] == "binary"
 
 
+# the forms of symbols that are no parts of expressions, by their kinds: definition_of_modules.py puts them here
+FURTHER = {}
+
+
 @functools.lru_cache(maxsize=None)
 def productions(symbol):
     """What a symbol stands for: for each way its name, and the symbols in order."""
@@ -135,6 +139,8 @@ def productions(symbol):
     if kind == "expression":
         higher = [("higher", [expression(level + 1, height)])] if level < HIGHEST_LEVEL else []
         made = higher + list(tree_productions(level, height))
+    elif kind in FURTHER:
+        made = FURTHER[kind](height)
     else:
         made = list(list_productions(kind, level, height)) + list(part_productions(kind, height))
     return [(name, tuple(parts)) for name, parts in made]
@@ -381,7 +387,7 @@ def readings(words, tokens, limit):
     named, bad = faults(words, search, limit)
     found = [told for place, told in named if place == named[0][0]]
     if not named and bad is not None:
-        found.append(f"bad {bad}")
+        found.append(f"bad {bad} of 0")
     trees = search.trees(expression(0, limit), 0, len(words))
     for tree in trees:
         if write(tree) != words:

@@ -1,9 +1,10 @@
 #!/usr/bin/env python3
-"""Makes the program of bench/grammar/reader.txt around the parser of expressions, and prints its path.
+"""Makes the program of bench/grammar/reader.txt around the parsers of expressions and modules, and prints its path.
 
 usage: bench/grammar/reader.py FOLDER
 
-The folder is empty, or isn't there yet. `compare.py` and `speed.py` take the program, and make one where none is given.
+The folder is empty, or isn't there yet. The scripts that compare and measure take the program, and make one where none
+is given.
 """
 
 import os
@@ -16,17 +17,22 @@ sys.path.insert(0, os.path.dirname(HERE))
 
 import program
 
-CRATES = ("case_table", "mdl_lexer", "mdl_syntax", "mdl_grammar")
+CRATES = ("case_table", "mdl_lexer", "mdl_syntax", "expression_grammar", "module_grammar", "mdl_grammar")
+# by the crate and the module that have them, the parser within any height, and the one that is public
+PARSERS = (("expression_grammar", "parse", "parse_within", "parse_expr"),
+           ("mdl_grammar", "modules", "parse_module_within", "parse_module"))
 
 
 def build(folder):
-    """The program, from copies of the crates in which the parser within any height is public."""
+    """The program, from copies of the crates in which the parsers within any height are public."""
     program.copy_crates(folder, CRATES)
-    program.edit(folder, "mdl_grammar/src/parse.rt", "\nfn parse_within(", "\npub fn parse_within(")
-    program.edit(folder, "mdl_grammar/src/lib.rt", "pub use parse::parse_expr;",
-                 "pub use parse::{parse_expr, parse_within};")
-    return program.build(folder, "grammar_reader", ["mdl_grammar", "mdl_syntax", "mdl_lexer", "case_table"],
-                         os.path.join(HERE, "reader.txt"))
+    for crate, module, within, parser in PARSERS:
+        program.edit(folder, f"{crate}/src/{module}.rt", f"\nfn {within}(", f"\npub fn {within}(")
+        program.edit(folder, f"{crate}/src/lib.rt", f"pub use {module}::{parser};",
+                     f"pub use {module}::{{{parser}, {within}}};")
+    main, *modules = (os.path.join(HERE, f"{name}.txt") for name in ("reader", "told_expressions", "told_modules"))
+    return program.build(folder, "grammar_reader", [*reversed(CRATES)], main,
+                         modules)
 
 
 def main():

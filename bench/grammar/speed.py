@@ -4,7 +4,7 @@
 usage: bench/grammar/speed.py [PROGRAM]
 
 PROGRAM is what `reader.py` makes. Where it isn't given, it is made in a temporary folder. Tests nothing but the
-answers.
+answers. `speed_modules.py` measures the parser of modules in the same way.
 """
 
 import os
@@ -18,21 +18,22 @@ sys.path.insert(0, os.path.dirname(os.path.dirname(os.path.abspath(__file__))))
 import reader
 from run import MB, RUNS, best
 
-# The program reads the words line by line, and no line may be longer than a module.
-LINE = 1 << 20
+# The program reads the words of an expression line by line, and no line may be longer than a module. Shorter ones keep
+# this process small, whose size is the floor of each peak.
+LINE = 1 << 16
 OPERATORS = ("||", "&&", "|", "^", "&", "==", "<", "<<", "+", "*")
 HIGHEST = 400
 
 
-def make(path, before, piece, count, between, after):
-    """A file of so many pieces, in lines; this process stays small, since its size is the floor of each peak."""
+def make(path, text, count):
+    """A file of so many pieces, numbered where they have a place for it, in lines."""
+    before, piece, between, after = text
     many = max(1, LINE // len(piece + between))
     with open(path, "w") as file:
         file.write(before)
-        while count > 0:
-            part = min(many, count)
-            count -= part
-            file.write((piece + between) * (part - 1) + piece + (between if count else "") + "\n")
+        for first in range(0, count, many):
+            last = min(first + many, count)
+            file.write(between.join(map(piece.format, range(first, last))) + (between if last < count else "") + "\n")
         file.write(after)
 
 
@@ -42,8 +43,8 @@ def chain(operator, operators):
 
 
 def inputs():
-    """For each input its name, what stands before, the piece, between and after the pieces, their numbers, and the
-    answer."""
+    """For each input its name, what stands before, the piece, between and after the pieces, how many there are, and
+    the answer."""
     yield "arguments", ("f(", "a", ",", ")"), (250000, 1000000), "tree"
     for operator in OPERATORS:
         yield f"one chain of {operator}", ("", chain(operator, HIGHEST - 1), "", ""), (1,), "tree"
@@ -54,42 +55,48 @@ def inputs():
     yield "minus", ("", "- ", "", ""), (250000, 1000000), f"deep {HIGHEST - 1}"
 
 
-def measure(program, path, out):
+def measure(program, mode, path, out):
     """What the program answers, and the least time and peak of some runs."""
-    told = subprocess.run([program, "time", path], capture_output=True, text=True).stdout.strip()
-    number, seconds, peak = best([program, "time", path], out)
+    told = subprocess.run([program, mode, path], capture_output=True, text=True).stdout.strip()
+    number, seconds, peak = best([program, mode, path], out)
     return told if number == 0 else f"exit {number}", seconds, peak
 
 
-def run_all(program, path, out):
+def show(name, count, size, told, times, peak, note):
+    """Prints a line of the table."""
+    print(f"{name:20} {count:>9} {size:>10} {told:>9}" + "".join(f" {seconds * 1000:>10.2f}" for seconds in times)
+          + f" {peak / MB:>9.1f}  {note}", flush=True)
+
+
+def run_all(program, modes, inputs, path, out):
     """Prints a line for each input and size; gives those with another answer than is wanted."""
     wrong = []
-    for name, (before, piece, between, after), counts, wanted in inputs():
+    for name, text, counts, wanted in inputs:
         first = None
         for count in counts:
-            make(path, before, piece, count, between, after)
-            told, seconds, peak = measure(program, path, out)
+            make(path, text, count)
+            (told, seconds, peak), *others = (measure(program, mode, path, out) for mode in modes)
             growth = f"{seconds / first:.1f} times as long" if first else ""
             first = first or seconds
-            print(f"{name:20} {count:>9} {os.path.getsize(path):>10} {told:>9} {seconds * 1000:>10.2f} "
-                  f"{peak / MB:>9.1f}  {growth}", flush=True)
+            show(name, count, os.path.getsize(path), told, [seconds, *(other[1] for other in others)], peak, growth)
             if told != wanted:
                 wrong.append(f"{name}, {count}")
     return wrong
 
 
-def main():
-    """Takes or makes the program, and runs it."""
+def run(modes, inputs):
+    """Takes or makes the program, and runs it on each input: in the first mode, and in the others for their times."""
     with tempfile.TemporaryDirectory(prefix="mdl-speed-") as folder, open(os.devnull, "wb") as nothing:
         program = os.path.abspath(sys.argv[1]) if len(sys.argv) > 1 else reader.build(folder)
         out = nothing.fileno()
-        print(f"{'input':20} {'count':>9} {'bytes':>10} {'answer':>9} {'ms':>10} {'peak MB':>9}  (best of {RUNS} runs)")
+        heads = "".join(f" {head:>10}" for head in ("ms", *(f"{mode} ms" for mode in modes[1:])))
+        print(f"{'input':20} {'count':>9} {'bytes':>10} {'answer':>9}{heads} {'peak MB':>9}  (best of {RUNS} runs)")
         _, seconds, peak = best(["/bin/true"], out)
-        print(f"{'/bin/true':20} {'':>9} {'':>10} {'':>9} {seconds * 1000:>10.2f} {peak / MB:>9.1f}  (the floor)")
-        wrong = run_all(program, os.path.join(folder, "words"), out)
+        show("/bin/true", "", "", "", [seconds] * len(modes), peak, "(the floor)")
+        wrong = run_all(program, modes, inputs, os.path.join(folder, "words"), out)
     if wrong:
         sys.exit("other answers than wanted: " + "; ".join(wrong))
 
 
 if __name__ == "__main__":
-    main()
+    run(["time"], inputs())

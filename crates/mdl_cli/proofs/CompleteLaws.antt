@@ -13,7 +13,7 @@ use Rattle.mdl_cli.specs.Lines.{usage_line, out_of_memory_line, not_built_line}
 use Rattle.mdl_cli.specs.Outcome as outcome
 use Rattle.mdl_cli.specs.Headline.{Call, AnswerText, RefusalLine, NoFault, HasRoom, Complete}
 use Rattle.mdl_cli.specs.inside.Delivery.{HasCause, Finds, Tells, Answers, Delivers}
-use Rattle.mdl_cli.proofs.OutcomeLaws.{no_refusal, refusal_is_one}
+use Rattle.mdl_cli.specs.OneOutcome.{OneOutcome}
 
 -- a source that tells its files holds no others
 held_is : (told : Option (List File)) (files held : List File) → told ≡ Some files →
@@ -59,51 +59,51 @@ roomy_answer text told out out_after diag diag_after room (inr ((gone, w), told_
     absurd (omega (arith, w.no_room))
 
 answered_by : (call : Call) (found : Answer) (files : List File) (text : List ℕ) →
-    call.source.files ≡ Some files → outcome.Answer call.words files text → NoFault call →
+    OneOutcome call.words files → call.source.files ≡ Some files → outcome.Answer call.words files text → NoFault call →
     HasCause call.words call.source call.source_after found →
     Delivers found call.status call.out call.out_after call.diag call.diag_after →
     (call.status ≡ status.Done) ⊎ (call.status ≡ status.OutOfMemory)
-answered_by call (answer.Text own) files text told stands none cause d =
+answered_by call (answer.Text own) files text one told stands none cause d =
     inl (answer_done own.items call.status call.out call.out_after call.diag call.diag_after none.out d)
-answered_by call (answer.Refused line) files text told stands none cause d =
-    absurd (no_refusal call.words files text status.Refused line.items stands
+answered_by call (answer.Refused line) files text one told stands none cause d =
+    absurd (one.not_both text status.Refused line.items stands
     (refusal_at call.words call.source files status.Refused line.items told cause))
-answered_by call answer.NotBuilt files text told stands none cause d =
-    absurd (no_refusal call.words files text status.Refused not_built_line stands
+answered_by call answer.NotBuilt files text one told stands none cause d =
+    absurd (one.not_both text status.Refused not_built_line stands
     (refusal_at call.words call.source files status.Refused not_built_line told cause))
-answered_by call answer.Usage files text told stands none cause d =
-    absurd (no_refusal call.words files text status.Usage usage_line stands
+answered_by call answer.Usage files text one told stands none cause d =
+    absurd (one.not_both text status.Usage usage_line stands
     (refusal_at call.words call.source files status.Usage usage_line told cause))
-answered_by call answer.ReadFault files text told stands none cause d = absurd (none.source cause)
-answered_by call answer.OutOfMemory files text told stands none cause d =
+answered_by call answer.ReadFault files text one told stands none cause d = absurd (none.source cause)
+answered_by call answer.OutOfMemory files text one told stands none cause d =
     inr (own_status status.OutOfMemory call.status out_of_memory_line call.diag call.diag_after none.diag d.1)
 
 -- a line that stands is the line that is told
 refused_line_by : (call : Call) (files : List File) (own s : Status) (line stands : List ℕ) →
-    call.source.files ≡ Some files → RefusalLine call.words call.source own line →
+    OneOutcome call.words files → call.source.files ≡ Some files → RefusalLine call.words call.source own line →
     outcome.Refusal call.words files s stands → NoFault call →
     Tells own line call.status call.diag call.diag_after → call.status ≡ s
-refused_line_by call files own s line stands told cause refusal none d =
+refused_line_by call files own s line stands one told cause refusal none d =
     own_status own call.status line call.diag call.diag_after none.diag d
-    ∙ (refusal_is_one call.words files own s line stands
+    ∙ (one.one_refusal own s line stands
     (refusal_at call.words call.source files own line told cause) refusal).0
 
 refused_by : (call : Call) (found : Answer) (files : List File) (s : Status) (line : List ℕ) →
-    call.source.files ≡ Some files → outcome.Refusal call.words files s line → NoFault call →
+    OneOutcome call.words files → call.source.files ≡ Some files → outcome.Refusal call.words files s line → NoFault call →
     HasCause call.words call.source call.source_after found →
     Delivers found call.status call.out call.out_after call.diag call.diag_after →
     (call.status ≡ s) ⊎ (call.status ≡ status.OutOfMemory)
-refused_by call (answer.Text text) files s line told stands none cause d =
-    absurd (no_refusal call.words files text.items s line
+refused_by call (answer.Text text) files s line one told stands none cause d =
+    absurd (one.not_both text.items s line
     (answer_at call.words call.source files text.items told cause) stands)
-refused_by call (answer.Refused own) files s line told stands none cause d =
-    inl (refused_line_by call files status.Refused s own.items line told cause stands none d.1)
-refused_by call answer.NotBuilt files s line told stands none cause d =
-    inl (refused_line_by call files status.Refused s not_built_line line told cause stands none d.1)
-refused_by call answer.Usage files s line told stands none cause d =
-    inl (refused_line_by call files status.Usage s usage_line line told cause stands none d.1)
-refused_by call answer.ReadFault files s line told stands none cause d = absurd (none.source cause)
-refused_by call answer.OutOfMemory files s line told stands none cause d =
+refused_by call (answer.Refused own) files s line one told stands none cause d =
+    inl (refused_line_by call files status.Refused s own.items line one told cause stands none d.1)
+refused_by call answer.NotBuilt files s line one told stands none cause d =
+    inl (refused_line_by call files status.Refused s not_built_line line one told cause stands none d.1)
+refused_by call answer.Usage files s line one told stands none cause d =
+    inl (refused_line_by call files status.Usage s usage_line line one told cause stands none d.1)
+refused_by call answer.ReadFault files s line one told stands none cause d = absurd (none.source cause)
+refused_by call answer.OutOfMemory files s line one told stands none cause d =
     inr (own_status status.OutOfMemory call.status out_of_memory_line call.diag call.diag_after none.diag d.1)
 
 usage_or_fault : (told : Status) (before after : SinkState) →
@@ -152,12 +152,15 @@ steady_by call answer.OutOfMemory steady room cause d =
     room.others d.1) (λ e. absurd cc) (λ e. absurd cc)
 
 -- what was found and delivered is complete
-pub complete : (call : Call) (found : Answer) → Finds call.words call.source call.source_after found →
+pub complete : (call : Call) (found : Answer) →
+    ((words : List (List ℕ)) (files : List File) → OneOutcome words files) →
+    Finds call.words call.source call.source_after found →
     Delivers found call.status call.out call.out_after call.diag call.diag_after → Complete call
-complete call found finds d = record {
-  answered = λ files text told stands none. answered_by call found files text told stands none finds.cause d;
-  refused = λ files s line told stands none. refused_by call found files s line told stands none
-      finds.cause d;
+complete call found outcomes finds d = record {
+  answered = λ files text told stands none.
+      answered_by call found files text (outcomes call.words files) told stands none finds.cause d;
+  refused = λ files s line told stands none.
+      refused_by call found files s line (outcomes call.words files) told stands none finds.cause d;
   no_command = λ unnamed. no_command_by call found (finds.no_command unnamed) d;
   steady = λ steady room. steady_by call found (finds.steady steady) room finds.cause d;
 }

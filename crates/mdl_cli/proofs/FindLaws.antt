@@ -1,7 +1,8 @@
 -- From what is found in a file to what is found for the words.
 use Rattle.std.proofs.Common.{◌≡◌, ◌≢◌, ℕ, ◌+◌, ◌<◌, ◌≤◌, true, false, List, [], ◌∷◌, Option, Some}
 use Rattle.std.proofs.Common.{None, length, refl, sym, ap, ◌∙◌, subst, inl, inr, arith}
-use Rattle.std.specs.Prelude.{IfSome, IfOk, Result, Ok, Err, replicate}
+use Rattle.std.specs.Prelude.{IfSome, IfOk, IsUtf8, Result, Ok, Err, replicate, zero, suc}
+use Rattle.std.specs.List.{AllByRecursion}
 use Rattle.std.specs.declared.vec.Vec.{Vec}
 use Rattle.std.specs.declared.alloc.Global.{Global}
 use Rattle.std.specs.declared.alloc.AllocError.{AllocError}
@@ -9,7 +10,7 @@ use Rattle.std.specs.Str.{bytes_eq}
 use Rattle.std.specs.Cmp.Lexicographic.{bytes_decides}
 use Rattle.std.proofs.lemmas.Bool.{false≢true, cond-true}
 use Rattle.std.proofs.lemmas.Option.{none-some}
-use Rattle.std.proofs.lemmas.List.{length-replicate}
+use Rattle.std.proofs.lemmas.List.{length-replicate, take_all}
 use Rattle.io_edge.specs.declared.source.Read.TheVariants as read
 use Rattle.io_edge.specs.Source.{File, SourceState, file_at, Reads}
 use Rattle.mdl_lexer.specs.declared.token.Token.{Token}
@@ -17,7 +18,15 @@ use Rattle.mdl_lexer.specs.declared.token.LexFault.{LexFault}
 use Rattle.mdl_lexer.specs.declared.token.LexFault.TheVariants as fault
 use Rattle.mdl_lexer.specs.Lexes.{HasTokens, HasFault}
 use Rattle.mdl_lexer.specs.OneLexing.{IsFault}
+use Rattle.mdl_lexer.specs.Places.{IsPlace}
 use Rattle.mdl_lexer.proofs.LexLaws.{lexing_is_one}
+use Rattle.mdl_syntax.specs.Modules.{ModuleTree}
+use Rattle.mdl_syntax.specs.Heights.{most_height}
+use Rattle.expression_grammar.specs.declared.fault.ParseFault.{ParseFault}
+use Rattle.expression_grammar.specs.declared.fault.ParseFault.TheVariants as syntax
+use Rattle.module_grammar.specs.ModuleReadings.{ModuleReading, HasModuleReading, IsModuleTree}
+use Rattle.module_grammar.specs.ModuleReadings as readings
+use Rattle.mdl_grammar.specs.Answers.{HasModuleFault}
 use Rattle.mdl_cli.specs.declared.status.Status.TheVariants as status
 use Rattle.mdl_cli.specs.declared.answer.Answer.{Answer}
 use Rattle.mdl_cli.specs.declared.answer.Answer.TheVariants as answer
@@ -25,11 +34,12 @@ use Rattle.mdl_cli.specs.Request.{Request, IsRequest, NoRequest, names_command, 
 use Rattle.mdl_cli.specs.Words.{kinds_of}
 use Rattle.mdl_cli.specs.FirstText.{AreFirstWords}
 use Rattle.mdl_cli.specs.Lines.{usage_line, absent_line, too_long_line, not_built_line, fault_line}
+use Rattle.mdl_cli.specs.Syntax.{syntax_line, byte_of}
 use Rattle.mdl_cli.specs.Outcome.{most_module, RefusesRequest, RefusesBytes}
 use Rattle.mdl_cli.specs.Headline.{MayHold, RefusalLine}
 use Rattle.mdl_cli.specs.inside.Asking.{request_in}
 use Rattle.mdl_cli.specs.inside.Delivery.{HasCause, Finds, FindsIn, FindsInWords, FindsLine}
-use Rattle.mdl_cli.specs.inside.Delivery.{FindsAt, IsLine, RefusesFault, Told}
+use Rattle.mdl_cli.specs.inside.Delivery.{FindsAt, IsLine, RefusesFault, RefusesSyntaxFault, Told}
 use Rattle.mdl_cli.proofs.RequestLaws.{request_in_sound, request_in_complete}
 
 -- files that the source may hold, with this at the path
@@ -103,8 +113,9 @@ in_file request source after bytes (answer.Text text) h short found = record {
     found = h.there;
     short =
         short;
+    accepted = found.1.0;
     term = found.0;
-    first = found.1;
+    first = found.1.1;
     text_is = found.2;
   };
 }
@@ -163,35 +174,89 @@ at_too_long request path source after answer same reads is =
           (too_long_line (module_name request))) (sym there) (inl (h.1.1.2, refl));
     })
 
--- what is found in a file's words is found in the file
-pub words_found : (request : Request) (bytes : List ℕ) (tokens : List Token) (found : Answer) →
-    HasTokens bytes tokens → FindsInWords request (kinds_of tokens) found → FindsIn request bytes found
-words_found request bytes tokens (answer.Text text) has is = (
+-- what is found in a module's words is found in the file
+pub words_found : (request : Request) (bytes : List ℕ) (tokens : List Token) (tree : ModuleTree)
+    (found : Answer) → HasTokens bytes tokens → IsModuleTree most_height tokens tree →
+    FindsInWords request (kinds_of tokens) found → FindsIn request bytes found
+words_found request bytes tokens tree (answer.Text text) has reads is = (
   is.0,
-  record { tokens = tokens; has = has; first = is.1 },
+  (
+    record { tokens = tokens; has = has; tree = tree; reads = reads },
+    record { tokens = tokens; has = has; first = is.1 },
+  ),
   is.2,
 )
-words_found request bytes tokens (answer.Refused line) has is =
-    inr (inr (record {
+words_found request bytes tokens tree (answer.Refused line) has reads is =
+    inr (inr (inr (record {
+      accepted = record { tokens = tokens; has = has; tree = tree; reads = reads };
       name = is.name;
       term = is.term;
       first = record { tokens = tokens; has = has; first = is.first };
       other = is.other;
       line_is = is.line_is;
-    }))
-words_found request bytes tokens answer.NotBuilt has is =
-    inr (inl (record {
-      tokens = tokens;
-      has = has;
+    })))
+words_found request bytes tokens tree answer.NotBuilt has reads is =
+    inr (inr (inl (record {
+      accepted = record { tokens = tokens; has = has; tree = tree; reads = reads };
       none = λ name term first.
           is name term
           (subst (λ (ts : List Token). AreFirstWords (kinds_of ts) name term)
           ((lexing_is_one bytes).one_list first.tokens tokens first.has has) first.first);
       line_is = refl;
+    })))
+words_found request bytes tokens tree answer.OutOfMemory has reads is = tt
+words_found request bytes tokens tree answer.Usage has reads is = is
+words_found request bytes tokens tree answer.ReadFault has reads is = is
+
+-- the line of the fault of a module's words, if there was memory for it
+syntax_found : (request : Request) (bytes : List ℕ) (tokens : List Token) (reading : ModuleReading)
+    (line : List ℕ) (found : Answer) → HasTokens bytes tokens →
+    HasModuleReading most_height tokens reading →
+    Some line ≡ syntax_line (module_name request) bytes tokens reading → IsLine line found →
+    FindsIn request bytes found
+syntax_found request bytes tokens reading line (answer.Refused own) has stands of is =
+    inr (inl (record {
+      tokens = tokens;
+      has = has;
+      reading = reading;
+      stands = stands;
+      line_is = ap Some is ∙ of;
     }))
-words_found request bytes tokens answer.OutOfMemory has is = tt
-words_found request bytes tokens answer.Usage has is = is
-words_found request bytes tokens answer.ReadFault has is = is
+syntax_found request bytes tokens reading line answer.OutOfMemory has stands of is = tt
+syntax_found request bytes tokens reading line (answer.Text text) has stands of is = absurd is
+syntax_found request bytes tokens reading line answer.NotBuilt has stands of is = absurd is
+syntax_found request bytes tokens reading line answer.Usage has stands of is = absurd is
+syntax_found request bytes tokens reading line answer.ReadFault has stands of is = absurd is
+
+-- what is found where a fault stands in a module's words
+pub syntax_fault_found : (request : Request) (bytes : List ℕ) (tokens : List Token)
+    (fault_is : ParseFault) (found : Answer) → HasTokens bytes tokens →
+    HasModuleFault most_height tokens fault_is →
+    RefusesSyntaxFault (module_name request) bytes tokens fault_is found → FindsIn request bytes found
+syntax_fault_found request bytes tokens (syntax.BadSyntax declaration at) found has stands is =
+    syntax_found request bytes tokens (readings.bad_syntax declaration at) _ found has stands refl is
+syntax_fault_found request bytes tokens (syntax.TooDeep at) found has stands is =
+    syntax_found request bytes tokens (readings.too_deep at) _ found has stands refl is
+syntax_fault_found request bytes tokens (syntax.StatementBody at) found has stands is =
+    syntax_found request bytes tokens (readings.statement_body at) _ found has stands refl is
+syntax_fault_found request bytes tokens (syntax.LeftOut at word) found has stands is =
+    syntax_found request bytes tokens (readings.left_out at word) _ found has stands refl is
+syntax_fault_found request bytes tokens (syntax.Version at) found has stands is =
+    syntax_found request bytes tokens (readings.other_version at) _ found has stands refl is
+syntax_fault_found request bytes tokens syntax.OutOfMemory found has stands is =
+    subst (λ (a : Answer). FindsIn request bytes a) (sym is) tt
+
+-- the byte of a word is a place, and so is the end of the text
+pub word_place : (bytes : List ℕ) (tokens : List Token) (number : ℕ) → IsUtf8 bytes →
+    AllByRecursion (λ (token : Token). IsPlace bytes token.at) tokens →
+    IsPlace bytes (byte_of bytes tokens number)
+word_place bytes [] number text places = record {
+  within = omega arith;
+  front = subst IsUtf8 (sym (take_all (length bytes) bytes (omega arith))) text;
+}
+word_place bytes (token ∷ tokens) zero text places = places.0
+word_place bytes (token ∷ tokens) (suc number) text places =
+    word_place bytes tokens number text places.1
 
 -- a line that may have failed is told, if there was memory for it
 pub told_line : (line : List ℕ) (result : Result (Vec ℕ Global) AllocError) (found : Answer) →

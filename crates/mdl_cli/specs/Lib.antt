@@ -4,6 +4,7 @@ pub mod Words
 pub mod FirstText
 pub mod GraphText
 pub mod Lines
+pub mod Syntax
 pub mod Outcome
 pub mod OneOutcome
 pub mod Headline

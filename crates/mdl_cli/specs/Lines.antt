@@ -40,6 +40,20 @@ abbrev pub site_at : List ℕ → List ℕ → ℕ → List ℕ
 site_at name bytes at =
     let front = chars (take at bytes) in site name (line_behind front) (column_behind front)
 
+-- the same with a word behind
+abbrev pub word_end : List ℕ → List ℕ
+word_end word = codes " " ++ (word ++ codes "\n")
+
+abbrev pub place_word : ℕ → ℕ → List ℕ → List ℕ
+place_word line column word = decimal line ++ (codes ":" ++ (decimal column ++ word_end word))
+
+abbrev pub site_word : List ℕ → ℕ → ℕ → List ℕ → List ℕ
+site_word name line column word = name ++ (codes " " ++ place_word line column word)
+
+abbrev pub site_word_at : List ℕ → List ℕ → ℕ → List ℕ → List ℕ
+site_word_at name bytes at word =
+    let front = chars (take at bytes) in site_word name (line_behind front) (column_behind front) word
+
 -- a module's bytes that have no words for this fault. A byte that starts no character has column 0
 abbrev pub fault_line : List ℕ → List ℕ → LexFault → List ℕ
 fault_line name bytes (fault.NotUtf8 at) =

@@ -3,7 +3,7 @@ ghost use Rattle.mdl_lexer.specs.Places.{IsPlace};
 ghost use Rattle.mdl_lexer.specs.declared.token.LexFault.TheVariants as fault;
 ghost use Rattle.mdl_cli.specs.Request.{module_name};
 ghost use Rattle.mdl_cli.specs.Lines.{absent_line, too_long_line, fault_line, material_unknown_line};
-ghost use Rattle.mdl_cli.specs.Lines.{site, site_at, place_text};
+ghost use Rattle.mdl_cli.specs.Lines.{site, site_at, place_text, site_word, site_word_at, place_word, word_end};
 ghost use Rattle.mdl_cli.specs.inside.Asked.{request_value};
 
 use crate::graph_text::push_number;
@@ -50,9 +50,10 @@ pub fn not_utf8_line(
     Ok(line)
 }
 
-/// The line for a module with bytes that begin no word, by the offset of the first of them.
-pub fn bad_token_line(
+/// The line for a module with a fault at this byte, behind the fault's number and name.
+pub fn site_line(
     alloc: Global,
+    front: &[u8],
     request: &Request<'_>,
     bytes: &[u8],
     at: u32,
@@ -60,27 +61,29 @@ pub fn bad_token_line(
     requires place { IsPlace bytes.now at }
     requires short { length bytes.now ≤ 4194304 }
     ensures { IfOk result
-        (λ line. line.items ≡ fault_line (module_name (request_value request.now)) bytes.now (fault.BadToken at)) }
+        (λ line. line.items ≡ front.now ++ site_at (module_name (request_value request.now)) bytes.now at) }
 {
-    let mut line = Vec::from_slice(alloc, b"error 15 BadToken ")?;
+    let mut line = Vec::from_slice(alloc, front)?;
     push_site_at(&mut line, request, bytes, at)?;
     Ok(line)
 }
 
-/// The line for a module with an integer past the largest, by the offset of its first digit.
-pub fn int_range_line(
+/// The line for a module with a word that is left out, or a form of this name, at this byte.
+pub fn left_out_line(
     alloc: Global,
     request: &Request<'_>,
     bytes: &[u8],
     at: u32,
+    word: &str,
 ) -> Result<Vec<u8>, AllocError>
     requires place { IsPlace bytes.now at }
     requires short { length bytes.now ≤ 4194304 }
-    ensures { IfOk result
-        (λ line. line.items ≡ fault_line (module_name (request_value request.now)) bytes.now (fault.IntRange at)) }
+    ensures { IfOk result (λ line. line.items ≡ codes "error 20 LeftOut "
+        ++ site_word_at (module_name (request_value request.now)) bytes.now at word.now) }
 {
-    let mut line = Vec::from_slice(alloc, b"error 16 IntRange ")?;
-    push_site_at(&mut line, request, bytes, at)?;
+    let mut line = Vec::from_slice(alloc, b"error 20 LeftOut ")?;
+    let place = place_of(bytes, at as usize);
+    push_site_word(&mut line, request, place.line, place.column, word)?;
     Ok(line)
 }
 
@@ -120,6 +123,42 @@ fn push_site(
     request.push_module_name(line)?;
     line.extend_from_slice(b" ")?;
     push_place(line, row, column)?;
+    Ok(())
+}
+
+/// Appends the module's name, a place and a word.
+fn push_site_word(
+    line: &mut Vec<u8>,
+    request: &Request<'_>,
+    row: u32,
+    column: u32,
+    word: &str,
+) -> Result<(), AllocError>
+    ensures { OnOk result (line.new.items
+        ≡ line.old.items ++ site_word (module_name (request_value request.now)) row column word.now) }
+{
+    request.push_module_name(line)?;
+    line.extend_from_slice(b" ")?;
+    push_place_word(line, row, column, word)?;
+    Ok(())
+}
+
+fn push_place_word(line: &mut Vec<u8>, row: u32, column: u32, word: &str) -> Result<(), AllocError>
+    ensures { OnOk result (line.new.items ≡ line.old.items ++ place_word row column word.now) }
+{
+    push_number(line, row as usize)?;
+    line.extend_from_slice(b":")?;
+    push_number(line, column as usize)?;
+    push_word_end(line, word)?;
+    Ok(())
+}
+
+fn push_word_end(line: &mut Vec<u8>, word: &str) -> Result<(), AllocError>
+    ensures { OnOk result (line.new.items ≡ line.old.items ++ word_end word.now) }
+{
+    line.extend_from_slice(b" ")?;
+    line.extend_from_slice(word.as_bytes())?;
+    line.extend_from_slice(b"\n")?;
     Ok(())
 }
 

@@ -9,6 +9,7 @@ use crate::answer::Answer;
 use crate::find::find_answer;
 use crate::status::Status;
 use io_edge::{Gate, Sink, Source, write_whole};
+use mdl_grammar::one_module_reading;
 use std::alloc::Global;
 use std::thread::Threads;
 
@@ -45,6 +46,7 @@ pub fn run<R: Threads + Sync, S: Source, O: Sink, D: Sink, G: Gate>(
       diag_after = D.state diag.new;
     }) }
 {
+    one_outcome();
     let answer = find_answer(alloc, words, source);
     deliver(answer, out, diag)
 }
@@ -94,4 +96,6 @@ pub fn tell_out_of_memory<D: Sink>(diag: &mut D) -> Status
 /// refusal stands.
 pub fn one_outcome()
     ensures { (words : List (List ℕ)) (files : List File) → OneOutcome words files }
-{}
+{
+    one_module_reading();
+}

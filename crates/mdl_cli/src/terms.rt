@@ -13,13 +13,15 @@ use crate::words::{CLOSE, COMMA, OPEN, expect};
 use case_table::Text;
 use mdl_lexer::{Kind, Token};
 use std::alloc::{AllocError, AllocFailed, Global};
+use thiserror::Error;
 use type_rules::{Arg, Shape, Symbol, Ty};
 
 /// Why nothing was read.
-#[derive(Clone, Copy, Debug, PartialEq, Eq)]
+#[derive(Clone, Copy, Debug, Drop, Error, PartialEq, Eq)]
 pub enum ReadError {
-    /// The text isn't a first text.
+    #[error("the text isn't a first text")]
     NotFirst,
+    #[error("out of memory")]
     OutOfMemory,
 }
 

@@ -2,7 +2,9 @@ use crate::run::{one_outcome, run};
 use crate::status::Status;
 use io_edge::{MemorySink, MemorySource, NoGate, SteadySink, SteadySource};
 use std::alloc::Global;
+use std::process::Abort;
 use std::test::Fail;
+use std::thread::Threads;
 
 const FIRST: &str = "mdl 1.6;
 export material m() = material(
@@ -58,10 +60,9 @@ fn words(alloc: Global, list: &[&str]) -> Result<Vec<String>, Fail> {
 fn answers_and_refusals(rt: HostRuntime) -> Result<(), Fail> {
     let alloc = rt.alloc();
     let own = ["instance", "r", "::m::m"];
-    let cases: [(&[&str], &str, Status, &str, &str); 17] = [
+    let cases: [(&[&str], &str, Status, &str, &str); 16] = [
         (&own, FIRST, Status::Done, GRAPH, ""),
-        (&own, "mdl 1.60;", Status::Refused, "", "error 9 NotBuilt\n"),
-        (&own, "", Status::Refused, "", "error 9 NotBuilt\n"),
+        (&own, "mdl 1.6;", Status::Refused, "", "error 9 NotBuilt\n"),
         (
             &own,
             "mdl 1.6;\n4294967296 $\n",
@@ -174,6 +175,96 @@ fn answers_and_refusals(rt: HostRuntime) -> Result<(), Fail> {
         assert_eq!(rt; diag.taken(), line.as_bytes());
     }
     one_outcome();
+    Ok(())
+}
+
+// The line of a refusal of a module's text.
+fn refusal(rt: &(impl Abort + Threads + Sync), alloc: Global, text: &str) -> Result<String, Fail> {
+    let words = words(alloc, &["instance", "r", "::m::m"])?;
+    let mut source = SteadySource::new(file(alloc, text)?);
+    let mut out = SteadySink::new(alloc, 4096)?;
+    let mut diag = SteadySink::new(alloc, 64)?;
+    let got = run(rt, alloc, &words, &mut source, &mut out, &mut diag, &NoGate);
+    assert_eq!(rt; got, Status::Refused);
+    assert!(rt; out.taken().is_empty());
+    let mut line = String::new(alloc);
+    line.push_str(str::from_utf8(diag.taken()).unwrap_or("no text"))?;
+    Ok(line)
+}
+
+#[test]
+fn faults_of_modules_have_their_lines(rt: HostRuntime) -> Result<(), Fail> {
+    let alloc = rt.alloc();
+    let cases: [(&str, &str); 17] = [
+        ("", "error 17 BadSyntax ::m 1:1\n"),
+        ("mdl 1.60;", "error 21 Version ::m 1:5\n"),
+        ("mdl 1.7;\nexport material", "error 21 Version ::m 1:5\n"),
+        (
+            "mdl 1.6;\nfloat f(float x) = x++;\n",
+            "error 20 LeftOut ::m 2:21 ++\n",
+        ),
+        (
+            "mdl 1.6;\nexport using",
+            "error 20 LeftOut ::m 2:8 re-export\n",
+        ),
+        (
+            "mdl 1.6;\nfloat \u{e9}[<n>]",
+            "error 17 BadSyntax ::m 2:8\n",
+        ),
+        (
+            "mdl 1.6;\n\u{e9}[<n>] f();",
+            "error 20 LeftOut ::m 2:3 deferred-size\n",
+        ),
+        (
+            "mdl 1.6;\nexport material m( = 1;",
+            "error 17 BadSyntax ::m 2:20\n",
+        ),
+        ("mdl 1.6;\nfloat f() = 1.0", "error 17 BadSyntax ::m 2:16\n"),
+        (
+            "mdl 1.6;\nfloat f() = 1.0\n",
+            "error 17 BadSyntax ::m 3:1\n",
+        ),
+        (
+            "mdl 1.6;\nfloat g() = f(a: 1, 2);",
+            "error 17 BadSyntax ::m 2:21\n",
+        ),
+        (
+            "mdl 1.6;\nfloat g() = f(a: 1, b);",
+            "error 17 BadSyntax ::m 2:22\n",
+        ),
+        (
+            "mdl 1.6;\nfloat f() = 1.0 + let { float x = 1.0; } in x;",
+            "error 17 BadSyntax ::m 2:19\n",
+        ),
+        (
+            "mdl 1.6;\nfloat f() { return 1.0; }",
+            "error 19 StatementBody ::m 2:11\n",
+        ),
+        ("mdl 1.6;\nfloat f();", "error 9 NotBuilt\n"),
+        ("mdl 1.6;\nexport material m() = 1;", "error 9 NotBuilt\n"),
+        ("mdl 1.6;\nfloat f() = 1 $", "error 15 BadToken ::m 2:15\n"),
+    ];
+    for (text, expected) in cases {
+        let line = refusal(&rt, alloc, text)?;
+        assert_eq!(rt; line.as_str(), expected);
+    }
+    let heights: [(usize, &str); 2] = [
+        (399, "error 9 NotBuilt\n"),
+        (400, "error 18 TooDeep ::m 2:419\n"),
+    ];
+    for (count, expected) in heights {
+        let mut text = String::from_str(alloc, "mdl 1.6;\nexport float f() = ")?;
+        for _ in 0..count {
+            text.push('(')?;
+        }
+        text.push_str("1.0")?;
+        for _ in 0..count {
+            text.push(')')?;
+        }
+        text.push(';')?;
+        let line = refusal(&rt, alloc, text.as_str())?;
+        assert_eq!(rt; line.as_str(), expected);
+    }
     Ok(())
 }
 

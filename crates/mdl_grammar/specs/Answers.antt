@@ -1,21 +1,26 @@
--- What the parser of expressions answers.
+-- What the parsers answer.
 use Rattle.std.specs.Prelude.{◌≡◌, ⊤, ℕ, List, Result, Ok, Err}
 use Rattle.mdl_lexer.specs.declared.token.Token.{Token}
-use Rattle.mdl_syntax.specs.declared.expressions.Expr.{Expr}
-use Rattle.mdl_syntax.specs.Trees.{Tree, tree_of}
-use Rattle.mdl_syntax.specs.Placed.{placed, IsSameButPlaces}
-use Rattle.mdl_grammar.specs.declared.fault.ParseFault.{ParseFault}
-use Rattle.mdl_grammar.specs.declared.fault.ParseFault.TheVariants as fault
-use Rattle.mdl_grammar.specs.Readings.{HasReading, bad_syntax, too_deep, left_out}
+use Rattle.expression_grammar.specs.declared.fault.ParseFault.{ParseFault}
+use Rattle.expression_grammar.specs.declared.fault.ParseFault.TheVariants as fault
+use Rattle.mdl_syntax.specs.declared.modules.Module.{Module}
+use Rattle.mdl_syntax.specs.Modules.{ModuleTree, module_of}
+use Rattle.mdl_syntax.specs.PlacedModules.{placed_module, IsSameModule}
+use Rattle.module_grammar.specs.ModuleReadings.{HasModuleReading}
+use Rattle.module_grammar.specs.ModuleReadings as modules
 
--- the fault that stands in the tokens, where expressions have at most this height. Memory may be short of any
-abbrev pub HasFault : ℕ → List Token → ParseFault → Type 0
-HasFault most tokens (fault.BadSyntax declaration at) = (declaration ≡ 0) × HasReading most tokens (bad_syntax at)
-HasFault most tokens (fault.TooDeep at) = HasReading most tokens (too_deep at)
-HasFault most tokens (fault.LeftOut at word) = HasReading most tokens (left_out at word)
-HasFault most tokens fault.OutOfMemory = ⊤
+-- the fault that stands in tokens that are to be a module
+abbrev pub HasModuleFault : ℕ → List Token → ParseFault → Type 0
+HasModuleFault most tokens (fault.BadSyntax declaration at) =
+    HasModuleReading most tokens (modules.bad_syntax declaration at)
+HasModuleFault most tokens (fault.TooDeep at) = HasModuleReading most tokens (modules.too_deep at)
+HasModuleFault most tokens (fault.StatementBody at) = HasModuleReading most tokens (modules.statement_body at)
+HasModuleFault most tokens (fault.LeftOut at word) = HasModuleReading most tokens (modules.left_out at word)
+HasModuleFault most tokens (fault.Version at) = HasModuleReading most tokens (modules.other_version at)
+HasModuleFault most tokens fault.OutOfMemory = ⊤
 
--- the expression is read with the tokens' places, unless memory is short
-abbrev pub IsReadAs : List Token → Tree → Result Expr ParseFault → Type 0
-IsReadAs tokens tree (Ok read) = (tree_of read ≡ placed tree tokens) × IsSameButPlaces (tree_of read) tree
-IsReadAs tokens tree (Err refused) = refused ≡ fault.OutOfMemory
+-- the module is read with the tokens' places, unless memory is short
+abbrev pub IsModuleReadAs : List Token → ModuleTree → Result Module ParseFault → Type 0
+IsModuleReadAs tokens tree (Ok read) =
+    (module_of read ≡ placed_module tree tokens) × IsSameModule (module_of read) tree
+IsModuleReadAs tokens tree (Err refused) = refused ≡ fault.OutOfMemory

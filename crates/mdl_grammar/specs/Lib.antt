@@ -1,5 +1,2 @@
-pub mod Opens
-pub mod Faults
-pub mod Readings
 pub mod inside
 pub mod Answers

@@ -1,12 +1,3 @@
-pub mod Machine
-pub mod MachineRows
-pub mod Leads
-pub mod Sorts
-pub mod Stands
-pub mod Sound
-pub mod Fits
-pub mod Wrote
-pub mod Capped
-pub mod Views
-pub mod SortViews
 pub mod Runs
+pub mod ModuleViews
+pub mod Ends

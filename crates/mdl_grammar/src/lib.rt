@@ -1,26 +1,30 @@
-//! Reads expressions from the words of a module's text.
+//! Reads modules and their expressions from the words of a module's text.
 #![tactic(auto)]
 
-mod arguments;
-mod bindings;
-mod brackets;
-mod complete;
-mod fault;
-mod frame;
-mod laws;
-mod mode;
-mod names;
-mod operand;
-mod parse;
-#[cfg(test)]
-mod parse_tests;
-mod reduce;
-mod room;
-mod several;
-mod sort;
-mod step;
-mod wanted;
+mod annotations;
+mod boxes;
+mod calls;
+mod declarations;
+mod ends;
+mod faults;
+mod fronts;
+mod functions;
+mod imports;
+mod items;
+mod module_state;
+mod modules;
+mod namings;
+mod positions;
+mod sites;
+mod structs;
+mod using;
+mod verdicts;
+mod version;
 
-pub use fault::ParseFault;
-pub use laws::{before_a_fault, one_expression, one_reading, what_is_written_is_read};
-pub use parse::parse_expr;
+pub use expression_grammar::{
+    ParseFault, before_a_fault, one_expression, one_reading, parse_expr, what_is_written_is_read,
+};
+pub use module_grammar::{
+    before_a_module_fault, one_module, one_module_reading, what_a_module_writes_is_read,
+};
+pub use modules::parse_module;

@@ -1,5 +1,5 @@
 -- What the code finds before it writes, and what it does with it.
-use Rattle.std.specs.Prelude.{◌≡◌, ◌≢◌, ◌⊎◌, ℕ, true, false, List, Result, Ok, Err}
+use Rattle.std.specs.Prelude.{◌≡◌, ◌≢◌, ◌⊎◌, ◌++◌, ℕ, true, false, codes, List, Result, Ok, Err}
 use Rattle.std.specs.declared.vec.Vec.{Vec}
 use Rattle.std.specs.declared.alloc.Global.{Global}
 use Rattle.std.specs.declared.alloc.AllocError.{AllocError}
@@ -12,14 +12,18 @@ use Rattle.mdl_cli.specs.declared.answer.Answer.{Answer}
 use Rattle.mdl_cli.specs.declared.answer.Answer.TheVariants as answer
 use Rattle.type_rules.specs.Terms.{Term}
 use Rattle.mdl_lexer.specs.declared.token.Kind.{Kind}
+use Rattle.mdl_lexer.specs.declared.token.Token.{Token}
 use Rattle.mdl_lexer.specs.declared.token.LexFault.{LexFault}
 use Rattle.mdl_lexer.specs.declared.token.LexFault.TheVariants as fault
+use Rattle.expression_grammar.specs.declared.fault.ParseFault.{ParseFault}
+use Rattle.expression_grammar.specs.declared.fault.ParseFault.TheVariants as syntax
 use Rattle.mdl_cli.specs.FirstText.{AreFirstWords, IsFirstText}
 use Rattle.mdl_cli.specs.GraphText.{instance_text}
-use Rattle.mdl_cli.specs.Outcome.{AnswersRequest, RefusesRequest, RefusesBytes}
+use Rattle.mdl_cli.specs.Outcome.{AnswersRequest, RefusesRequest, RefusesBytes, IsModuleText}
 use Rattle.mdl_cli.specs.Request.{Request, names_command, material_name, path_of}
 use Rattle.mdl_cli.specs.Lines.{usage_line, read_fault_line, write_fault_line, out_of_memory_line}
-use Rattle.mdl_cli.specs.Lines.{not_built_line, material_unknown_line, fault_line}
+use Rattle.mdl_cli.specs.Lines.{not_built_line, material_unknown_line, fault_line, site_at, site_word_at}
+use Rattle.mdl_cli.specs.Syntax.{byte_of}
 use Rattle.mdl_cli.specs.Headline.{AnswerText, RefusalLine, MayHold}
 
 -- the cause of what was found
@@ -68,7 +72,7 @@ Delivers answer.OutOfMemory told out out_after diag diag_after =
 -- what is found in the file of a request's module
 abbrev pub FindsIn : Request → List ℕ → Answer → Type 0
 FindsIn request bytes (answer.Text text) =
-    (term : Term) × IsFirstText bytes request.material term
+    (term : Term) × (IsModuleText bytes × IsFirstText bytes request.material term)
     × (text.items ≡ instance_text (material_name request) term)
 FindsIn request bytes (answer.Refused line) = RefusesBytes request bytes line.items
 FindsIn request bytes answer.NotBuilt = RefusesBytes request bytes not_built_line
@@ -108,6 +112,20 @@ Told (Err error) found = found ≡ answer.OutOfMemory
 abbrev pub RefusesFault : List ℕ → List ℕ → LexFault → Answer → Type 0
 RefusesFault name bytes fault.OutOfMemory found = found ≡ answer.OutOfMemory
 RefusesFault name bytes fault found = IsLine (fault_line name bytes fault) found
+
+-- the line of a fault in a module's words, if there was memory for it
+abbrev pub RefusesSyntaxFault : List ℕ → List ℕ → List Token → ParseFault → Answer → Type 0
+RefusesSyntaxFault name bytes tokens (syntax.BadSyntax declaration at) found =
+    IsLine (codes "error 17 BadSyntax " ++ site_at name bytes (byte_of bytes tokens at)) found
+RefusesSyntaxFault name bytes tokens (syntax.TooDeep at) found =
+    IsLine (codes "error 18 TooDeep " ++ site_at name bytes (byte_of bytes tokens at)) found
+RefusesSyntaxFault name bytes tokens (syntax.StatementBody at) found =
+    IsLine (codes "error 19 StatementBody " ++ site_at name bytes (byte_of bytes tokens at)) found
+RefusesSyntaxFault name bytes tokens (syntax.LeftOut at word) found =
+    IsLine (codes "error 20 LeftOut " ++ site_word_at name bytes (byte_of bytes tokens at) word) found
+RefusesSyntaxFault name bytes tokens (syntax.Version at) found =
+    IsLine (codes "error 21 Version " ++ site_at name bytes (byte_of bytes tokens at)) found
+RefusesSyntaxFault name bytes tokens syntax.OutOfMemory found = found ≡ answer.OutOfMemory
 
 -- what is found for a request over a source
 pub record FindsText (request : Request) (source : SourceState) (text : List ℕ) : Type 0 where

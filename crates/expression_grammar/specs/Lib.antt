@@ -1,0 +1,6 @@
+pub mod Languages
+pub mod Opens
+pub mod Faults
+pub mod Readings
+pub mod inside
+pub mod Answers

@@ -1,5 +1,0 @@
-use Rattle.mdl_grammar.proofs.AsideLaws.{same_but_places}
-use Rattle.mdl_grammar.proofs.laws.one_expression.Goals as goal
-
-pub returns : goal.returns
-returns c = same_but_places

@@ -1,5 +1,0 @@
-use Rattle.mdl_grammar.proofs.ReadingLaws.{one_reading}
-use Rattle.mdl_grammar.proofs.laws.one_reading.Goals as goal
-
-pub returns : goal.returns
-returns c = one_reading

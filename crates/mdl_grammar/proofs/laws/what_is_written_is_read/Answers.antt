@@ -1,5 +1,0 @@
-use Rattle.mdl_grammar.proofs.ReadingLaws.{written_is_read}
-use Rattle.mdl_grammar.proofs.laws.what_is_written_is_read.Goals as goal
-
-pub returns : goal.returns
-returns c = written_is_read

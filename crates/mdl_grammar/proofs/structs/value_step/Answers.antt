@@ -1,0 +1,10 @@
+use Rattle.std.proofs.Common.{rules}
+use Rattle.mdl_grammar.specs.inside.ModuleViews.{begun_of, enum_of}
+use Rattle.module_grammar.proofs.ModuleStepLaws.{value_otherwise}
+use Rattle.mdl_grammar.proofs.structs.value_step.Goals as goal
+
+pub returns-in_default : goal.returns-in_default
+returns-in_default c =
+    rw (value_otherwise (begun_of c.args.begun.now) (enum_of c.args.held) c.args.name c.args.sort
+    c.in_default.not-Equals c.in_default.not-OpeningBracket)
+    (search rules)

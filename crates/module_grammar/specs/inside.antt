@@ -1,0 +1,11 @@
+pub mod ModuleMachine
+pub mod ModuleRows
+pub mod ModuleLeads
+pub mod WroteModules
+pub mod ModuleParts
+pub mod ModuleHolds
+pub mod ModuleFits
+pub mod ModuleHeads
+pub mod ModulePlain
+pub mod ModuleForms
+pub mod ModuleRuns
