@@ -18,7 +18,8 @@ use Rattle.expression_grammar.proofs.ReadingLaws.{run_has, run_only, written_is_
 
 known : (most : ℕ) (tokens : List Token) → 1 ≤ most → (made : Run) → run most tokens ≡ made →
     HasReading most tokens (reading_of made)
-known most tokens some made same = subst (λ own. HasReading most tokens (reading_of own)) same (run_has most some tokens)
+known most tokens some made same =
+    subst (λ own. HasReading most tokens (reading_of own)) same (run_has most some tokens)
 
 answers_tree : (most : ℕ) (tokens : List Token) (result : Expr) → 1 ≤ most →
     run most tokens ≡ read_as (tree_of result) → IsTree most tokens (tree_of result)
@@ -59,7 +60,8 @@ is_tree most tokens tree some accepted writes made same =
 pub answers_written : (most : ℕ) (tokens : List Token) (result : Result Expr ParseFault) (tree : Tree) → 1 ≤ most →
     Parsed result (run most tokens) → Accepted most tree → write tree ≡ kinds tokens → IsReadAs tokens tree result
 answers_written most tokens (Ok read) tree some same accepted writes =
-    let is = sym (ap (tree_in (placed tree tokens)) (same_reading most tokens tree some accepted writes (read_as (tree_of read)) same)) in
+    let is = sym (ap (tree_in (placed tree tokens))
+    (same_reading most tokens tree some accepted writes (read_as (tree_of read)) same)) in
     (is, subst (λ (own : Tree). IsSameButPlaces own tree) (sym is) (placed_twice tree tokens))
 answers_written most tokens (Err (fault.BadSyntax declaration at)) tree some is accepted writes =
     absurd (is_tree most tokens tree some accepted writes _ is.1)

@@ -380,7 +380,8 @@ pub left_out_fault : (most : ℕ) → 1 ≤ most → (before rest : List Token) 
     (mode : Mode) (frames : List Frame) (text : List ℕ) →
     Leads true most wanted [] before mode frames →
     taken true most mode frames token ≡ is_left_out text →
-    IsLeftOut (kinds (before ++ token ∷ rest)) (length before) text × NoneBefore (IsNamed most (kinds (before ++ token ∷ rest))) (length before)
+    IsLeftOut (kinds (before ++ token ∷ rest)) (length before) text ×
+    NoneBefore (IsNamed most (kinds (before ++ token ∷ rest))) (length before)
 left_out_fault most some before rest token mode frames text leads is = (
   by (taken_leaves most mode frames token text is),
   named_before most some before (token ∷ rest) mode frames leads,

@@ -159,7 +159,7 @@ fn path_from(alloc: Global, ident: Ident) -> Result<Path, AllocError>
     ensures { IfOk result (λ path. path_of path ≡ first_part ident.text ident.span) }
 {
     let span = ident.span;
-    let mut parts = Vec::new(alloc);
+    let mut parts = Vec::with_capacity(alloc, 1)?;
     parts.push(ident)?;
     Ok(Path {
         absolute: false,

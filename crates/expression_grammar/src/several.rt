@@ -90,7 +90,8 @@ impl Model for Arguments {
 
     ghost view = { λ several. several.list.items };
 
-    ghost invariant = { λ several. several.height ≡ capped (arguments_height (arguments_of (map argument_of several.list.items))) };
+    ghost invariant = { λ several. several.height
+        ≡ capped (arguments_height (arguments_of (map argument_of several.list.items))) };
 }
 
 impl Arguments {
@@ -154,7 +155,8 @@ impl Model for Initializers {
 
     ghost view = { λ several. several.list.items };
 
-    ghost invariant = { λ several. several.height ≡ capped (initializers_height (initializers_of (map initializer_of several.list.items))) };
+    ghost invariant = { λ several. several.height
+        ≡ capped (initializers_height (initializers_of (map initializer_of several.list.items))) };
 }
 
 impl Initializers {

@@ -80,7 +80,7 @@ pub fn wanted_step(
 pub fn first_part(alloc: Global, text: &Text, place: Span) -> Result<Path, AllocError>
     ensures { IfOk result (λ path. path_of path ≡ machine_part text.now place) }
 {
-    let mut parts = Vec::new(alloc);
+    let mut parts = Vec::with_capacity(alloc, 1)?;
     parts.push(ident(text, place)?)?;
     Ok(Path {
         absolute: false,

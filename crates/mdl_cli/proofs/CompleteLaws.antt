@@ -89,7 +89,8 @@ refused_line_by call files own s line stands one told cause refusal none d =
     (refusal_at call.words call.source files own line told cause) refusal).0
 
 refused_by : (call : Call) (found : Answer) (files : List File) (s : Status) (line : List ℕ) →
-    OneOutcome call.words files → call.source.files ≡ Some files → outcome.Refusal call.words files s line → NoFault call →
+    OneOutcome call.words files → call.source.files ≡ Some files → outcome.Refusal call.words files s line →
+    NoFault call →
     HasCause call.words call.source call.source_after found →
     Delivers found call.status call.out call.out_after call.diag call.diag_after →
     (call.status ≡ s) ⊎ (call.status ≡ status.OutOfMemory)

@@ -9,11 +9,13 @@ use Rattle.mdl_syntax.specs.declared.imports.Lead.TheVariants as lead
 use Rattle.mdl_syntax.specs.declared.imports.Qualified.{Qualified}
 use Rattle.expression_grammar.specs.declared.sort.Sort as words
 use Rattle.expression_grammar.specs.declared.sort.Sort.TheVariants as sort
-use Rattle.module_grammar.specs.inside.ModuleMachine.{Begun, Naming, using_step, unnamed, one_dot, two_dots}
-use Rattle.module_grammar.specs.inside.ModuleMachine.{up_steps, one_dot_behind, led, parted, open_ended}
-use Rattle.module_grammar.specs.inside.ModuleMachine.{split_last, part_end, qualified_from, module_name}
+use Rattle.module_grammar.specs.inside.ModuleMachine.{using_step}
+use Rattle.module_grammar.specs.inside.ModuleStates.{Begun, Naming, unnamed, one_dot, two_dots}
+use Rattle.module_grammar.specs.inside.ModuleStates.{up_steps, one_dot_behind, led, parted, open_ended}
+use Rattle.module_grammar.specs.inside.ModuleStates.{split_last, part_end, qualified_from, module_name}
 use Rattle.expression_grammar.specs.inside.Machine.{from_to}
-use Rattle.module_grammar.specs.inside.ModuleMachine.{import_step, wrong, is_star}
+use Rattle.module_grammar.specs.inside.ModuleMachine.{import_step}
+use Rattle.module_grammar.specs.inside.ModuleStates.{wrong, is_star}
 use Rattle.expression_grammar.specs.inside.Machine.{Sort, binary_operator, other_literal}
 use Rattle.mdl_syntax.specs.declared.expressions.Lit.TheVariants as lit
 use Rattle.mdl_grammar.specs.inside.ModuleViews.{uses_on, imports_by, imports_on}

@@ -5,10 +5,12 @@ use Rattle.mdl_syntax.specs.declared.types.Freq.{Freq}
 use Rattle.mdl_syntax.specs.Modules.{Parameter}
 use Rattle.expression_grammar.specs.declared.sort.Sort as words
 use Rattle.expression_grammar.specs.declared.sort.Sort.TheVariants as sort
-use Rattle.module_grammar.specs.inside.ModuleMachine.{Begun, Owner, Struct, Fronted, Named, typed_step}
+use Rattle.module_grammar.specs.inside.ModuleMachine.{typed_step}
+use Rattle.module_grammar.specs.inside.ModuleStates.{Begun, Owner, Struct, Fronted, Named}
 use Rattle.module_grammar.specs.inside.ModuleMachine.{declaration_step, exported_step, item_step}
 use Rattle.module_grammar.specs.inside.ModuleMachine.{parameters_step, fields_step, first_front_step}
-use Rattle.module_grammar.specs.inside.ModuleMachine.{of_parameter, of_field, function_step}
+use Rattle.module_grammar.specs.inside.ModuleMachine.{function_step}
+use Rattle.module_grammar.specs.inside.ModuleStates.{of_parameter, of_field}
 use Rattle.module_grammar.specs.inside.ModuleMachine.{function_annotated, annotation_annotated}
 use Rattle.module_grammar.specs.inside.ModuleMachine.{annotation_declared_step}
 use Rattle.mdl_grammar.specs.inside.ModuleViews.{late_item, unmarked}

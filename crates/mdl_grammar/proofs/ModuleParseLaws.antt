@@ -6,10 +6,12 @@ use Rattle.mdl_lexer.specs.declared.token.Token.{Token}
 use Rattle.mdl_grammar.specs.declared.module_state.ModuleStop.{ModuleStop}
 use Rattle.mdl_grammar.specs.declared.module_state.ModuleStop.TheVariants as stops
 use Rattle.mdl_grammar.specs.declared.module_state.Begun as held_begun
-use Rattle.module_grammar.specs.inside.ModuleMachine.{State, Begun, Position, Outcome, on, within, item_wanted}
+use Rattle.module_grammar.specs.inside.ModuleStates.{State, Begun, Position, Outcome, on, within, item_wanted}
 use Rattle.module_grammar.specs.inside.ModuleMachine.{module_taken, run_module, run_module_from, whole_after}
-use Rattle.module_grammar.specs.inside.ModuleMachine.{module_end, module_bad, wrong, too_deep, leaves_out}
-use Rattle.module_grammar.specs.inside.ModuleMachine.{statement_body, waiting_place, ends_waiting, over_at}
+use Rattle.module_grammar.specs.inside.ModuleMachine.{module_end, module_bad}
+use Rattle.module_grammar.specs.inside.ModuleStates.{wrong, too_deep, leaves_out}
+use Rattle.module_grammar.specs.inside.ModuleMachine.{waiting_place, ends_waiting, over_at}
+use Rattle.module_grammar.specs.inside.ModuleStates.{statement_body}
 use Rattle.module_grammar.specs.inside.ModuleMachine.{step_from, module_step, place_or}
 use Rattle.expression_grammar.specs.declared.sort.Sort as words
 use Rattle.expression_grammar.specs.declared.sort.Sort.TheVariants as sorts

@@ -14,9 +14,11 @@ use Rattle.mdl_grammar.specs.declared.module_state.Site as held_sites
 use Rattle.mdl_grammar.specs.declared.module_state.Site.TheVariants as held_site
 use Rattle.mdl_grammar.specs.declared.module_state.Fronted as held_fronted
 use Rattle.mdl_grammar.specs.declared.module_state.Holder as held_holders
-use Rattle.module_grammar.specs.inside.ModuleMachine.{Begun, Site, whole_call, expression, call_step}
-use Rattle.module_grammar.specs.inside.ModuleMachine.{call_outcome, call_goes, call_read, may_name, wrong}
-use Rattle.module_grammar.specs.inside.ModuleMachine.{within, item_wanted, Holder, in_annotation}
+use Rattle.module_grammar.specs.inside.ModuleMachine.{whole_call, call_step}
+use Rattle.module_grammar.specs.inside.ModuleStates.{Begun, Site, expression}
+use Rattle.module_grammar.specs.inside.ModuleMachine.{call_outcome, call_goes, call_read, may_name}
+use Rattle.module_grammar.specs.inside.ModuleStates.{wrong}
+use Rattle.module_grammar.specs.inside.ModuleStates.{within, item_wanted, Holder, in_annotation}
 use Rattle.module_grammar.specs.inside.ModuleMachine.{first_annotation_step}
 use Rattle.expression_grammar.specs.inside.Machine.{Sort, Mode, Frame, complete, wanted, mode_step}
 use Rattle.expression_grammar.specs.inside.SortViews.{sort_view}

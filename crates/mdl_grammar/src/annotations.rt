@@ -6,7 +6,7 @@ ghost use Rattle.module_grammar.specs.inside.ModuleMachine.{own_step as machine_
 ghost use Rattle.module_grammar.specs.inside.ModuleMachine.{annotation_read_step as machine_annotation_read};
 ghost use Rattle.module_grammar.specs.inside.ModuleMachine.{closing_annotations as machine_closing};
 ghost use Rattle.module_grammar.specs.inside.ModuleMachine.{annotated_step as machine_annotated};
-ghost use Rattle.module_grammar.specs.inside.ModuleMachine.{parameter_from as machine_parameter_from};
+ghost use Rattle.module_grammar.specs.inside.ModuleStates.{parameter_from as machine_parameter_from};
 ghost use Rattle.expression_grammar.specs.inside.SortViews.{sort_view};
 
 use crate::boxes::{begin_annotations, expression_wanted};

@@ -1,6 +1,6 @@
 ghost use Rattle.std.specs.Prelude.{◌≡◌, [], IfOk};
 ghost use Rattle.expression_grammar.specs.inside.Machine.{wanted};
-ghost use Rattle.module_grammar.specs.inside.ModuleMachine.{expression, annotations_begun};
+ghost use Rattle.module_grammar.specs.inside.ModuleStates.{expression, annotations_begun};
 ghost use Rattle.mdl_grammar.specs.inside.ModuleViews.{position_of, site_of, holder_of};
 
 use crate::module_state::{AnnotationPosition, Holder, Position, Site};

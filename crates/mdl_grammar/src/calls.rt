@@ -2,16 +2,17 @@ ghost use Rattle.std.specs.Prelude.{◌≡◌, ◌++◌, ◌∷◌, ◌<◌, [],
 ghost use Rattle.mdl_syntax.specs.Trees.{tree_of};
 ghost use Rattle.mdl_syntax.specs.Modules.{annotation_of};
 ghost use Rattle.expression_grammar.specs.inside.Machine.{mode_step as machine_mode, wanted};
-ghost use Rattle.module_grammar.specs.inside.ModuleMachine.{Begun as MachineBegun, within};
+ghost use Rattle.module_grammar.specs.inside.ModuleStates.{Begun as MachineBegun, within};
 ghost use Rattle.module_grammar.specs.inside.ModuleMachine.{may_name as machine_may_name};
 ghost use Rattle.module_grammar.specs.inside.ModuleMachine.{call_step as machine_call, call_outcome as machine_outcome};
 ghost use Rattle.module_grammar.specs.inside.ModuleMachine.{call_goes as machine_goes};
-ghost use Rattle.module_grammar.specs.inside.ModuleMachine.{call_read as machine_read, whole_call as machine_whole, on};
+ghost use Rattle.module_grammar.specs.inside.ModuleMachine.{call_read as machine_read, whole_call as machine_whole};
+ghost use Rattle.module_grammar.specs.inside.ModuleStates.{on};
 ghost use Rattle.module_grammar.specs.inside.ModuleMachine.{expression_step as machine_expression};
 ghost use Rattle.module_grammar.specs.inside.ModuleMachine.{is_call_site as machine_is_call_site};
 ghost use Rattle.module_grammar.specs.inside.ModuleMachine.{first_annotation_step as machine_first};
 ghost use Rattle.mdl_grammar.specs.inside.ModuleViews.{ModuleCame, begun_of, site_of, holder_of, position_of};
-ghost use Rattle.module_grammar.specs.inside.ModuleMachine.{item_wanted as machine_item_wanted, in_annotation};
+ghost use Rattle.module_grammar.specs.inside.ModuleStates.{item_wanted as machine_item_wanted, in_annotation};
 ghost use Rattle.expression_grammar.specs.inside.Views.{Came, mode_of, stack_of};
 ghost use Rattle.expression_grammar.specs.inside.SortViews.{sort_view};
 
@@ -39,7 +40,8 @@ pub fn expression_step(
     place: Span,
 ) -> Result<Position, ModuleStop>
     requires { limit < 4294967295 }
-    ensures { ModuleCame result begun.new (machine_expression limit (begun_of begun.old) (site_of site.value) (mode_of mode)
+    ensures { ModuleCame result begun.new
+        (machine_expression limit (begun_of begun.old) (site_of site.value) (mode_of mode)
         (stack_of frames.items) (sort_view sort.entry) place) }
 {
     if is_call_site(&*site) {
@@ -235,7 +237,8 @@ fn whole_call(
 #[tactic(auto, using(crate::proofs::SiteStepLaws::longer_annotations))]
 fn call_read(begun: &Begun, site: Box<Site>, call: Anno) -> Result<Position, ModuleStop>
     ensures { ModuleCame result begun.now
-        (on (within (begun_of begun.now) (machine_read (begun_of begun.now) (site_of site.value) (annotation_of call)))) }
+        (on (within (begun_of begun.now)
+        (machine_read (begun_of begun.now) (site_of site.value) (annotation_of call)))) }
 {
     match Box::into_inner(site) {
         Site::Annotation {

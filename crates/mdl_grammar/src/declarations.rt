@@ -2,10 +2,10 @@ ghost use Rattle.std.specs.Prelude.{◌≡◌, ◌++◌, ◌∷◌, [], map, Som
 ghost use Rattle.mdl_syntax.specs.Trees.{tree_of};
 ghost use Rattle.mdl_syntax.specs.Modules.{annotations_of, annotation_of, parameter_of, declaration_of};
 ghost use Rattle.mdl_grammar.specs.inside.ModuleViews.{ModuleCame, begun_of, named_of, fronted_of, struct_of, enum_of};
-ghost use Rattle.module_grammar.specs.inside.ModuleMachine.{Outcome, on, with_declaration as machine_with_declaration};
-ghost use Rattle.module_grammar.specs.inside.ModuleMachine.{function_from as machine_function_from};
-ghost use Rattle.module_grammar.specs.inside.ModuleMachine.{is_material as machine_is_material};
-ghost use Rattle.module_grammar.specs.inside.ModuleMachine.{prototype_from as machine_prototype_from};
+ghost use Rattle.module_grammar.specs.inside.ModuleStates.{Outcome, on, with_declaration as machine_with_declaration};
+ghost use Rattle.module_grammar.specs.inside.ModuleStates.{function_from as machine_function_from};
+ghost use Rattle.module_grammar.specs.inside.ModuleStates.{is_material as machine_is_material};
+ghost use Rattle.module_grammar.specs.inside.ModuleStates.{prototype_from as machine_prototype_from};
 ghost use Rattle.module_grammar.specs.inside.ModuleMachine.{function_annotated as machine_function_annotated};
 ghost use Rattle.module_grammar.specs.inside.ModuleMachine.{annotation_annotated as machine_annotation_annotated};
 ghost use Rattle.module_grammar.specs.inside.ModuleMachine.{base_step as machine_base};

@@ -2,11 +2,12 @@ ghost use Rattle.std.specs.Prelude.{◌≡◌, ◌++◌, ◌∷◌, [], List, ma
 ghost use Rattle.expression_grammar.specs.inside.Machine.{Step};
 ghost use Rattle.module_grammar.specs.inside.ModuleMachine.{front_goes as machine_front_goes};
 ghost use Rattle.module_grammar.specs.inside.ModuleMachine.{front_outcome as machine_front_outcome};
-ghost use Rattle.module_grammar.specs.inside.ModuleMachine.{named_state as machine_named_state, on, within};
+ghost use Rattle.module_grammar.specs.inside.ModuleMachine.{named_state as machine_named_state};
+ghost use Rattle.module_grammar.specs.inside.ModuleStates.{on, within};
 ghost use Rattle.module_grammar.specs.inside.ModuleMachine.{deferred_owner as machine_deferred_owner};
 ghost use Rattle.module_grammar.specs.inside.ModuleMachine.{typed_step as machine_typed, front_step as machine_front};
 ghost use Rattle.module_grammar.specs.inside.ModuleMachine.{first_front_step as machine_first_front};
-ghost use Rattle.module_grammar.specs.inside.ModuleMachine.{Begun as MachineBegun};
+ghost use Rattle.module_grammar.specs.inside.ModuleStates.{Begun as MachineBegun};
 ghost use Rattle.mdl_grammar.specs.inside.ModuleViews.{front_of, ModuleCame, begun_of, fronting_of, owner_of};
 ghost use Rattle.mdl_grammar.specs.inside.ModuleViews.{position_of};
 ghost use Rattle.mdl_grammar.specs.inside.ModuleViews.{deferred_fronting};

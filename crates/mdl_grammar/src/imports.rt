@@ -1,9 +1,10 @@
 ghost use Rattle.std.specs.Prelude.{◌≡◌, ◌++◌, ◌∷◌, [], Some, None};
 ghost use Rattle.module_grammar.specs.inside.ModuleMachine.{import_step as machine_import};
 ghost use Rattle.module_grammar.specs.inside.ModuleMachine.{import_ends as machine_import_ends};
-ghost use Rattle.module_grammar.specs.inside.ModuleMachine.{import_item as machine_item, on};
-ghost use Rattle.module_grammar.specs.inside.ModuleMachine.{with_import as machine_with_import};
-ghost use Rattle.module_grammar.specs.inside.ModuleMachine.{qualified_from as machine_qualified};
+ghost use Rattle.module_grammar.specs.inside.ModuleMachine.{import_item as machine_item};
+ghost use Rattle.module_grammar.specs.inside.ModuleStates.{on};
+ghost use Rattle.module_grammar.specs.inside.ModuleStates.{with_import as machine_with_import};
+ghost use Rattle.module_grammar.specs.inside.ModuleStates.{qualified_from as machine_qualified};
 ghost use Rattle.mdl_grammar.specs.inside.ModuleViews.{ModuleCame, begun_of, naming_of, item_of, all_item_of};
 ghost use Rattle.mdl_grammar.specs.inside.ModuleViews.{imports_all, imports_text, imports_on, imports_operator};
 ghost use Rattle.mdl_grammar.specs.inside.ModuleViews.{imports_by};

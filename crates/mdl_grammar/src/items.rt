@@ -95,7 +95,8 @@ pub fn exported_step(
     sort: Sort<'_>,
     place: Span,
 ) -> Result<Position, ModuleStop>
-    ensures { ModuleCame result begun.now (machine_exported token (begun_of begun.now) at (sort_view sort.entry) place) }
+    ensures { ModuleCame result begun.now
+        (machine_exported token (begun_of begun.now) at (sort_view sort.entry) place) }
 {
     match sort {
         Sort::Using => Err(left_out_form(alloc, "re-export")),

@@ -1,7 +1,7 @@
 ghost use Rattle.std.specs.Prelude.{◌≡◌, None, Err};
 ghost use Rattle.mdl_grammar.specs.declared.module_state.Begun as begun;
 ghost use Rattle.mdl_grammar.specs.declared.module_state.ModuleStop.TheVariants as stop;
-ghost use Rattle.module_grammar.specs.inside.ModuleMachine.{leaves_out};
+ghost use Rattle.module_grammar.specs.inside.ModuleStates.{leaves_out};
 ghost use Rattle.mdl_grammar.specs.inside.ModuleViews.{ModuleCame};
 
 use case_table::{Seq, Text};
@@ -326,8 +326,8 @@ pub enum TypePosition {
     EnumClosed(EnumSoFar),
 }
 
-/// What was read last. Its greater parts lie in boxes, and it is an enum of enums, since a position moves with each token
-/// and a function that takes all of them apart would make room for all their parts.
+/// What was read last. Its greater parts lie in boxes, and it is an enum of enums, since a position moves with each
+/// token and a function that takes all of them apart would make room for all their parts.
 #[derive(Debug, Drop)]
 pub enum Position {
     ItemWanted {

@@ -1,7 +1,7 @@
 ghost use Rattle.std.specs.Prelude.{◌≡◌, suc, [], ◌∷◌, ◌++◌, Some, None};
 ghost use Rattle.expression_grammar.specs.inside.Machine.{ident_at};
-ghost use Rattle.module_grammar.specs.inside.ModuleMachine.{naming_step as machine_naming, unnamed, parted};
-ghost use Rattle.module_grammar.specs.inside.ModuleMachine.{up_steps as machine_up_steps};
+ghost use Rattle.module_grammar.specs.inside.ModuleStates.{naming_step as machine_naming, unnamed, parted};
+ghost use Rattle.module_grammar.specs.inside.ModuleStates.{up_steps as machine_up_steps};
 ghost use Rattle.mdl_grammar.specs.inside.ModuleViews.{NamingCame, naming_of};
 ghost use Rattle.expression_grammar.specs.inside.SortViews.{sort_view};
 
@@ -137,7 +137,7 @@ fn first_part(
 ) -> Result<Option<Naming>, ModuleStop>
     ensures { NamingCame result (Some (parted lead at (ident_at text.now place ∷ []) place.end)) }
 {
-    let mut parts = Vec::new(alloc);
+    let mut parts = Vec::with_capacity(alloc, 1)?;
     parts.push(ident(text, place)?)?;
     Ok(Some(Naming::Parted {
         lead,

@@ -1,11 +1,12 @@
 ghost use Rattle.std.specs.Prelude.{◌≡◌, ◌<◌, IfSome, None, Err};
 ghost use Rattle.module_grammar.specs.inside.ModuleMachine.{module_step as machine_step};
-ghost use Rattle.module_grammar.specs.inside.ModuleMachine.{position_step as machine_position, within};
+ghost use Rattle.module_grammar.specs.inside.ModuleMachine.{position_step as machine_position};
+ghost use Rattle.module_grammar.specs.inside.ModuleStates.{within};
 ghost use Rattle.mdl_grammar.specs.inside.ModuleViews.{ModuleCame, begun_of, position_of, import_position_of};
 ghost use Rattle.mdl_grammar.specs.inside.ModuleViews.{annotation_position_of, function_position_of, type_position_of};
 ghost use Rattle.expression_grammar.specs.inside.Machine.{left_out};
 ghost use Rattle.mdl_grammar.specs.declared.module_state.Begun.{Begun as HeldBegun};
-ghost use Rattle.module_grammar.specs.inside.ModuleMachine.{leaves_out};
+ghost use Rattle.module_grammar.specs.inside.ModuleStates.{leaves_out};
 ghost use Rattle.mdl_grammar.specs.inside.ModuleViews.{IsInUse};
 ghost use Rattle.expression_grammar.specs.inside.SortViews.{sort_view};
 
@@ -137,7 +138,8 @@ fn import_positions(
     place: Span,
 ) -> Result<Position, ModuleStop>
     requires { limit < 4294967295 }
-    ensures { ModuleCame result begun.new (machine_position limit number (begun_of begun.old) (import_position_of position)
+    ensures { ModuleCame result begun.new
+        (machine_position limit number (begun_of begun.old) (import_position_of position)
         (sort_view sort.entry) place) }
 {
     match position {
@@ -174,7 +176,8 @@ fn annotation_positions(
     place: Span,
 ) -> Result<Position, ModuleStop>
     requires { limit < 4294967295 }
-    ensures { ModuleCame result begun.new (machine_position limit number (begun_of begun.old) (annotation_position_of position)
+    ensures { ModuleCame result begun.new
+        (machine_position limit number (begun_of begun.old) (annotation_position_of position)
         (sort_view sort.entry) place) }
 {
     match position {
@@ -210,7 +213,8 @@ fn function_positions(
     place: Span,
 ) -> Result<Position, ModuleStop>
     requires { limit < 4294967295 }
-    ensures { ModuleCame result begun.new (machine_position limit number (begun_of begun.old) (function_position_of position)
+    ensures { ModuleCame result begun.new
+        (machine_position limit number (begun_of begun.old) (function_position_of position)
         (sort_view sort.entry) place) }
 {
     match position {
@@ -263,7 +267,8 @@ fn type_positions(
     place: Span,
 ) -> Result<Position, ModuleStop>
     requires { limit < 4294967295 }
-    ensures { ModuleCame result begun.new (machine_position limit number (begun_of begun.old) (type_position_of position)
+    ensures { ModuleCame result begun.new
+        (machine_position limit number (begun_of begun.old) (type_position_of position)
         (sort_view sort.entry) place) }
 {
     match position {

@@ -14,8 +14,9 @@ ghost use Rattle.module_grammar.specs.inside.ModuleMachine.{by_finish as machine
 ghost use Rattle.module_grammar.specs.inside.ModuleMachine.{opened_step as machine_opened};
 ghost use Rattle.module_grammar.specs.inside.ModuleMachine.{is_bracket as machine_is_bracket};
 ghost use Rattle.module_grammar.specs.inside.ModuleMachine.{holder_of as machine_holder};
-ghost use Rattle.module_grammar.specs.inside.ModuleMachine.{plain_parameter as machine_plain};
-ghost use Rattle.module_grammar.specs.inside.ModuleMachine.{unless_wrong as machine_unless_wrong, Site as MachineSite};
+ghost use Rattle.module_grammar.specs.inside.ModuleStates.{plain_parameter as machine_plain};
+ghost use Rattle.module_grammar.specs.inside.ModuleMachine.{unless_wrong as machine_unless_wrong};
+ghost use Rattle.module_grammar.specs.inside.ModuleStates.{Site as MachineSite};
 ghost use Rattle.mdl_grammar.specs.inside.ModuleViews.{ModuleCame, StopIn, begun_of, site_of, holder_of, front_of};
 ghost use Rattle.expression_grammar.specs.inside.Views.{Came, mode_of, stack_of};
 ghost use Rattle.expression_grammar.specs.inside.SortViews.{sort_view};

@@ -6,7 +6,7 @@ ghost use Rattle.module_grammar.specs.inside.ModuleMachine.{struct_annotated as 
 ghost use Rattle.module_grammar.specs.inside.ModuleMachine.{struct_named_step as machine_struct_named};
 ghost use Rattle.module_grammar.specs.inside.ModuleMachine.{field_ends as machine_field_ends};
 ghost use Rattle.module_grammar.specs.inside.ModuleMachine.{field_step as machine_field};
-ghost use Rattle.module_grammar.specs.inside.ModuleMachine.{plain_parameter as machine_plain};
+ghost use Rattle.module_grammar.specs.inside.ModuleStates.{plain_parameter as machine_plain};
 ghost use Rattle.module_grammar.specs.inside.ModuleMachine.{enum_annotated as machine_enum_annotated};
 ghost use Rattle.module_grammar.specs.inside.ModuleMachine.{enum_named_step as machine_enum_named};
 ghost use Rattle.module_grammar.specs.inside.ModuleMachine.{value_wanted_step as machine_value_wanted};
@@ -14,8 +14,8 @@ ghost use Rattle.module_grammar.specs.inside.ModuleMachine.{value_ends as machin
 ghost use Rattle.module_grammar.specs.inside.ModuleMachine.{value_step as machine_value};
 ghost use Rattle.module_grammar.specs.inside.ModuleMachine.{number_step as machine_number};
 ghost use Rattle.module_grammar.specs.inside.ModuleMachine.{number_read_step as machine_number_read};
-ghost use Rattle.module_grammar.specs.inside.ModuleMachine.{enum_value_from as machine_enum_value};
-ghost use Rattle.module_grammar.specs.inside.ModuleMachine.{with_value as machine_with_value};
+ghost use Rattle.module_grammar.specs.inside.ModuleStates.{enum_value_from as machine_enum_value};
+ghost use Rattle.module_grammar.specs.inside.ModuleStates.{with_value as machine_with_value};
 ghost use Rattle.expression_grammar.specs.inside.SortViews.{sort_view};
 
 use crate::boxes::{begin_annotations, expression_wanted};

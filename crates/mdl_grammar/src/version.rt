@@ -2,7 +2,7 @@ ghost use Rattle.std.specs.Prelude.{◌≡◌, ◌≤◌, ℕ, suc, IfOk, IfErr,
 ghost use Rattle.std.specs.List.{list_any};
 ghost use Rattle.std.specs.Str.{bytes_eq};
 ghost use Rattle.mdl_syntax.specs.AcceptedModules.{is_version as known_version};
-ghost use Rattle.module_grammar.specs.inside.ModuleMachine.{mdl_wanted, version_wanted, version_read};
+ghost use Rattle.module_grammar.specs.inside.ModuleStates.{mdl_wanted, version_wanted, version_read};
 ghost use Rattle.mdl_grammar.specs.inside.Runs.{BegunFrom, FaultFrom};
 
 use crate::faults::{bad_at, left_out_at};

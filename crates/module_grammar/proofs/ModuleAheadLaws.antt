@@ -12,7 +12,8 @@ use Rattle.mdl_syntax.specs.PlacedModules.{placed_module}
 use Rattle.mdl_syntax.specs.AcceptedModules.{module_height}
 use Rattle.module_grammar.specs.ModuleFaults.{EndsHead, IsWhole, ModuleOpensTo}
 use Rattle.expression_grammar.specs.Readings.{kinds}
-use Rattle.module_grammar.specs.inside.ModuleMachine.{State, on, mdl_wanted, module_step}
+use Rattle.module_grammar.specs.inside.ModuleMachine.{module_step}
+use Rattle.module_grammar.specs.inside.ModuleStates.{State, on, mdl_wanted}
 use Rattle.module_grammar.specs.inside.ModuleLeads.{ModuleLeads, ModuleEnds}
 use Rattle.module_grammar.specs.inside.ModuleHeads.{IsHead, IsItem}
 use Rattle.expression_grammar.proofs.KindLaws.{kinds_append, same_head, same_tail}

@@ -13,18 +13,20 @@ use Rattle.expression_grammar.specs.inside.Machine.{wanted}
 use Rattle.expression_grammar.specs.inside.Sorts.{IsOf}
 use Rattle.expression_grammar.specs.inside.Sound.{place, nothing, is_wanted}
 use Rattle.module_grammar.specs.inside.ModuleParts.{Part}
-use Rattle.module_grammar.specs.inside.ModuleMachine.{Begun, Holder, the_module, a_parameter}
-use Rattle.module_grammar.specs.inside.ModuleMachine.{a_function}
-use Rattle.module_grammar.specs.inside.ModuleMachine.{an_annotation, a_variant, a_struct, a_field}
-use Rattle.module_grammar.specs.inside.ModuleMachine.{an_enum}
-use Rattle.module_grammar.specs.inside.ModuleMachine.{an_enum_value, within, item_wanted, own_wanted}
-use Rattle.module_grammar.specs.inside.ModuleMachine.{annotations_begun, first_annotation}
-use Rattle.module_grammar.specs.inside.ModuleMachine.{annotation_read}
-use Rattle.module_grammar.specs.inside.ModuleMachine.{annotations_closing, annotated, expression}
-use Rattle.module_grammar.specs.inside.ModuleMachine.{in_annotation, own_step, second_bracket}
+use Rattle.module_grammar.specs.inside.ModuleStates.{Begun, Holder, the_module, a_parameter}
+use Rattle.module_grammar.specs.inside.ModuleStates.{a_function}
+use Rattle.module_grammar.specs.inside.ModuleStates.{an_annotation, a_variant, a_struct, a_field}
+use Rattle.module_grammar.specs.inside.ModuleStates.{an_enum}
+use Rattle.module_grammar.specs.inside.ModuleStates.{an_enum_value, within, item_wanted, own_wanted}
+use Rattle.module_grammar.specs.inside.ModuleStates.{annotations_begun, first_annotation}
+use Rattle.module_grammar.specs.inside.ModuleStates.{annotation_read}
+use Rattle.module_grammar.specs.inside.ModuleStates.{annotations_closing, annotated, expression}
+use Rattle.module_grammar.specs.inside.ModuleMachine.{own_step, second_bracket}
+use Rattle.module_grammar.specs.inside.ModuleStates.{in_annotation}
 use Rattle.module_grammar.specs.inside.ModuleMachine.{annotation_read_step, closing_annotations}
 use Rattle.module_grammar.specs.inside.ModuleMachine.{own_ends}
-use Rattle.module_grammar.specs.inside.ModuleMachine.{annotated_step, parameter_from, enum_value_from}
+use Rattle.module_grammar.specs.inside.ModuleMachine.{annotated_step}
+use Rattle.module_grammar.specs.inside.ModuleStates.{parameter_from, enum_value_from}
 use Rattle.module_grammar.specs.inside.ModuleHolds.{ModuleHolds, PositionHolds, BegunStands}
 use Rattle.module_grammar.specs.inside.ModuleHolds.{EarlyHolder}
 use Rattle.module_grammar.specs.inside.ModuleHolds.{Early, Annotated}

@@ -8,8 +8,9 @@ use Rattle.mdl_lexer.specs.declared.token.Token.{Token}
 use Rattle.module_grammar.specs.ModuleFaults.{WritesModule, ModuleOpens}
 use Rattle.module_grammar.specs.ModuleReadings.{ModuleReading, HasModuleReading, module_fault_place}
 use Rattle.expression_grammar.specs.Readings.{kinds}
-use Rattle.module_grammar.specs.inside.ModuleMachine.{Begun, Position, State, on, waits, leaves_out}
-use Rattle.module_grammar.specs.inside.ModuleMachine.{mdl_wanted, within, module_step, module_taken}
+use Rattle.module_grammar.specs.inside.ModuleStates.{Begun, Position, State, on, waits, leaves_out}
+use Rattle.module_grammar.specs.inside.ModuleMachine.{module_step, module_taken}
+use Rattle.module_grammar.specs.inside.ModuleStates.{mdl_wanted, within}
 use Rattle.module_grammar.specs.inside.ModuleMachine.{ModuleRun, run_module, waiting_place, place_or}
 use Rattle.module_grammar.specs.inside.ModuleMachine.{verdict_in, undecided}
 use Rattle.module_grammar.specs.inside.ModuleLeads.{ModuleLeads, ModuleOutcome, reads, is_wrong}

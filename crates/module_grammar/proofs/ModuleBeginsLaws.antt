@@ -9,12 +9,14 @@ use Rattle.mdl_syntax.specs.declared.types.Freq.{Freq}
 use Rattle.mdl_syntax.specs.Modules.{Annotation, Parameter}
 use Rattle.expression_grammar.specs.inside.Sound.{IsMark, Holds, is_wanted, Around, nothing}
 use Rattle.expression_grammar.specs.inside.Machine.{Mode, Frame, sort_of, from_to, wanted}
-use Rattle.module_grammar.specs.inside.ModuleMachine.{Begun, Position, State, Fronted, on}
-use Rattle.module_grammar.specs.inside.ModuleMachine.{mdl_wanted, within, expression, opened, fronting}
-use Rattle.module_grammar.specs.inside.ModuleMachine.{in_function_body, module_step}
-use Rattle.module_grammar.specs.inside.ModuleMachine.{function_read, annotated, a_function}
-use Rattle.module_grammar.specs.inside.ModuleMachine.{module_sort_step, version_wanted}
-use Rattle.module_grammar.specs.inside.ModuleMachine.{version_read, item_wanted}
+use Rattle.module_grammar.specs.inside.ModuleStates.{Begun, Position, State, Fronted, on}
+use Rattle.module_grammar.specs.inside.ModuleStates.{mdl_wanted, within, expression, opened, fronting}
+use Rattle.module_grammar.specs.inside.ModuleMachine.{module_step}
+use Rattle.module_grammar.specs.inside.ModuleStates.{in_function_body}
+use Rattle.module_grammar.specs.inside.ModuleStates.{function_read, annotated, a_function}
+use Rattle.module_grammar.specs.inside.ModuleMachine.{module_sort_step}
+use Rattle.module_grammar.specs.inside.ModuleStates.{version_wanted}
+use Rattle.module_grammar.specs.inside.ModuleStates.{version_read, item_wanted}
 use Rattle.module_grammar.specs.inside.ModuleLeads.{ModuleLeads}
 use Rattle.module_grammar.specs.inside.ModuleHeads.{IsHead, IsItem, size_in}
 use Rattle.module_grammar.specs.inside.ModuleHolds.{ModuleHolds}

@@ -7,8 +7,9 @@ use Rattle.mdl_lexer.specs.declared.token.Token.{Token}
 use Rattle.mdl_syntax.specs.declared.types.Freq.{Freq}
 use Rattle.mdl_syntax.specs.Modules.{Annotation, Parameter}
 use Rattle.expression_grammar.specs.inside.Machine.{Mode, Frame}
-use Rattle.module_grammar.specs.inside.ModuleMachine.{Begun, Fronted, State, on, within, expression}
-use Rattle.module_grammar.specs.inside.ModuleMachine.{in_function_body, module_taken, place_or}
+use Rattle.module_grammar.specs.inside.ModuleStates.{Begun, Fronted, State, on, within, expression}
+use Rattle.module_grammar.specs.inside.ModuleMachine.{module_taken, place_or}
+use Rattle.module_grammar.specs.inside.ModuleStates.{in_function_body}
 use Rattle.module_grammar.specs.inside.ModuleMachine.{waiting_place}
 use Rattle.module_grammar.specs.inside.ModuleLeads.{ModuleLeads, here, next}
 use Rattle.module_grammar.proofs.ModuleLeadsLaws.{state_in}

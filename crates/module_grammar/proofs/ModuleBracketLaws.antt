@@ -28,8 +28,9 @@ use Rattle.expression_grammar.specs.inside.Machine.{first_element_step, equals_s
 use Rattle.expression_grammar.specs.inside.Machine.{path_name, name_tree, integer_tree, indexed_tree}
 use Rattle.expression_grammar.specs.inside.Machine.{first_part, word_name, absolute_path}
 use Rattle.expression_grammar.specs.inside.Machine.{within as room_within}
-use Rattle.module_grammar.specs.inside.ModuleMachine.{Begun, Site, Outcome, on, wrong, too_deep}
-use Rattle.module_grammar.specs.inside.ModuleMachine.{within, expression, expression_outcome}
+use Rattle.module_grammar.specs.inside.ModuleStates.{Begun, Site, Outcome, on, wrong, too_deep}
+use Rattle.module_grammar.specs.inside.ModuleMachine.{expression_outcome}
+use Rattle.module_grammar.specs.inside.ModuleStates.{within, expression}
 use Rattle.module_grammar.specs.inside.ModuleMachine.{unless_wrong, index_outcome}
 use Rattle.expression_grammar.proofs.TakenLaws.{either_way}
 use Rattle.expression_grammar.proofs.RoomLaws.{stays, mode_limited}

@@ -18,11 +18,12 @@ use Rattle.expression_grammar.specs.inside.Machine.{part_read, word_read, in_exp
 use Rattle.expression_grammar.specs.inside.Machine as machine
 use Rattle.expression_grammar.specs.inside.Sorts.{IsOf}
 use Rattle.expression_grammar.specs.inside.Sound.{place, is_wanted, nothing}
-use Rattle.module_grammar.specs.inside.ModuleMachine.{Begun, Fronted, Holder, in_annotation, in_base}
-use Rattle.module_grammar.specs.inside.ModuleMachine.{wrong, expression, annotation_read, base_read}
-use Rattle.module_grammar.specs.inside.ModuleMachine.{annotations_closing, may_name, call_outcome}
+use Rattle.module_grammar.specs.inside.ModuleStates.{Begun, Fronted, Holder, in_annotation, in_base}
+use Rattle.module_grammar.specs.inside.ModuleStates.{wrong, expression, annotation_read, base_read}
+use Rattle.module_grammar.specs.inside.ModuleMachine.{may_name, call_outcome}
+use Rattle.module_grammar.specs.inside.ModuleStates.{annotations_closing}
 use Rattle.module_grammar.specs.inside.ModuleMachine.{call_step, first_annotation_step}
-use Rattle.module_grammar.specs.inside.ModuleMachine.{first_annotation}
+use Rattle.module_grammar.specs.inside.ModuleStates.{first_annotation}
 use Rattle.module_grammar.specs.inside.ModuleHolds.{PositionHolds, BegunStands, EarlyHolder, Then}
 use Rattle.module_grammar.specs.inside.ModuleHolds.{AtLeastOne, AnnotationsStand, AnnotationsOpen}
 use Rattle.module_grammar.specs.inside.ModuleHolds.{AnnotatedVariant, CallHolds, BaseHolds}

@@ -21,26 +21,28 @@ use Rattle.expression_grammar.specs.inside.Machine.{mode_step, wanted, opening}
 use Rattle.expression_grammar.specs.inside.Sorts.{IsOf}
 use Rattle.expression_grammar.specs.inside.Sound.{place, nothing, is_wanted}
 use Rattle.module_grammar.specs.inside.ModuleParts.{First, Each}
-use Rattle.module_grammar.specs.inside.ModuleMachine.{Outcome, Begun, Named, Front, Struct, Kin}
-use Rattle.module_grammar.specs.inside.ModuleMachine.{struct_kin}
-use Rattle.module_grammar.specs.inside.ModuleMachine.{enum_kin, annotation_kin, Holder, a_struct}
-use Rattle.module_grammar.specs.inside.ModuleMachine.{a_field}
-use Rattle.module_grammar.specs.inside.ModuleMachine.{Fronting, of_declaration, of_parameter, of_field}
-use Rattle.module_grammar.specs.inside.ModuleMachine.{Owner, of_annotation, within, item_wanted}
-use Rattle.module_grammar.specs.inside.ModuleMachine.{importing, using, own_wanted, exported_read}
-use Rattle.module_grammar.specs.inside.ModuleMachine.{unnamed}
-use Rattle.module_grammar.specs.inside.ModuleMachine.{kin_named, annotation_named, struct_named}
-use Rattle.module_grammar.specs.inside.ModuleMachine.{enum_named}
-use Rattle.module_grammar.specs.inside.ModuleMachine.{parameters_begun, fields_read, field_read}
-use Rattle.module_grammar.specs.inside.ModuleMachine.{struct_closed, annotations_begun, expression}
-use Rattle.module_grammar.specs.inside.ModuleMachine.{in_field_default, declaration_step, item_step}
+use Rattle.module_grammar.specs.inside.ModuleStates.{Outcome, Begun, Named, Front, Struct, Kin}
+use Rattle.module_grammar.specs.inside.ModuleStates.{struct_kin}
+use Rattle.module_grammar.specs.inside.ModuleStates.{enum_kin, annotation_kin, Holder, a_struct}
+use Rattle.module_grammar.specs.inside.ModuleStates.{a_field}
+use Rattle.module_grammar.specs.inside.ModuleStates.{Fronting, of_declaration, of_parameter, of_field}
+use Rattle.module_grammar.specs.inside.ModuleStates.{Owner, of_annotation, within, item_wanted}
+use Rattle.module_grammar.specs.inside.ModuleStates.{importing, using, own_wanted, exported_read}
+use Rattle.module_grammar.specs.inside.ModuleStates.{unnamed}
+use Rattle.module_grammar.specs.inside.ModuleStates.{kin_named, annotation_named, struct_named}
+use Rattle.module_grammar.specs.inside.ModuleStates.{enum_named}
+use Rattle.module_grammar.specs.inside.ModuleStates.{parameters_begun, fields_read, field_read}
+use Rattle.module_grammar.specs.inside.ModuleStates.{struct_closed, annotations_begun, expression}
+use Rattle.module_grammar.specs.inside.ModuleMachine.{declaration_step, item_step}
+use Rattle.module_grammar.specs.inside.ModuleStates.{in_field_default}
 use Rattle.module_grammar.specs.inside.ModuleMachine.{exported_step, kin_step, annotation_named_step}
 use Rattle.module_grammar.specs.inside.ModuleMachine.{front_step, first_front_step, typed_step}
 use Rattle.module_grammar.specs.inside.ModuleMachine.{no_frequency, struct_annotated}
 use Rattle.module_grammar.specs.inside.ModuleMachine.{struct_named_step}
 use Rattle.module_grammar.specs.inside.ModuleMachine.{struct_from, fields_step, field_ends, field_step}
-use Rattle.module_grammar.specs.inside.ModuleMachine.{with_field, plain_parameter, parameter_from}
-use Rattle.module_grammar.specs.inside.ModuleMachine.{struct_closed_step, place_of_declaration}
+use Rattle.module_grammar.specs.inside.ModuleStates.{with_field, plain_parameter, parameter_from}
+use Rattle.module_grammar.specs.inside.ModuleMachine.{struct_closed_step}
+use Rattle.module_grammar.specs.inside.ModuleStates.{place_of_declaration}
 use Rattle.module_grammar.specs.inside.ModuleHolds.{ModuleHolds, PositionHolds, BegunStands, EarlyIf}
 use Rattle.module_grammar.specs.inside.ModuleHolds.{EarlyHolder, HolderStands, FrontBase}
 use Rattle.module_grammar.specs.inside.ModuleHolds.{FrontingHolds}

@@ -9,8 +9,8 @@ use Rattle.mdl_syntax.specs.declared.imports.Import.TheVariants as import_form
 use Rattle.mdl_syntax.specs.Modules.{Declaration, material, variant, function, structure}
 use Rattle.mdl_syntax.specs.Modules.{enumeration, annotation}
 use Rattle.expression_grammar.specs.inside.Machine.{from_to, ident_at}
-use Rattle.module_grammar.specs.inside.ModuleMachine.{module_name, part_end, split_last}
-use Rattle.module_grammar.specs.inside.ModuleMachine.{qualified_from}
+use Rattle.module_grammar.specs.inside.ModuleStates.{module_name, part_end, split_last}
+use Rattle.module_grammar.specs.inside.ModuleStates.{qualified_from}
 use Rattle.expression_grammar.specs.inside.Sound.{place}
 use Rattle.module_grammar.specs.inside.WroteModules.{NamingWrote, first_named, longer_name}
 use Rattle.module_grammar.specs.inside.WroteModules.{ImportWrote, import_tokens, using_tokens}

@@ -15,14 +15,15 @@ use Rattle.expression_grammar.specs.inside.Machine.{ident_at}
 use Rattle.expression_grammar.specs.inside.Sorts.{IsOf}
 use Rattle.expression_grammar.specs.inside.Sound.{place}
 use Rattle.module_grammar.specs.inside.ModuleParts.{Part}
-use Rattle.module_grammar.specs.inside.ModuleMachine.{Begun, Named, Enum, an_enum, an_enum_value}
-use Rattle.module_grammar.specs.inside.ModuleMachine.{enum_named, value_wanted, value_read}
-use Rattle.module_grammar.specs.inside.ModuleMachine.{number_wanted, number_read, enum_closed}
+use Rattle.module_grammar.specs.inside.ModuleStates.{Begun, Named, Enum, an_enum, an_enum_value}
+use Rattle.module_grammar.specs.inside.ModuleStates.{enum_named, value_wanted, value_read}
+use Rattle.module_grammar.specs.inside.ModuleStates.{number_wanted, number_read, enum_closed}
 use Rattle.module_grammar.specs.inside.ModuleMachine.{enum_annotated, enum_named_step, enum_from}
 use Rattle.module_grammar.specs.inside.ModuleMachine.{value_wanted_step, value_ends, value_step}
-use Rattle.module_grammar.specs.inside.ModuleMachine.{with_value, enum_value_from, number_step}
+use Rattle.module_grammar.specs.inside.ModuleMachine.{number_step}
+use Rattle.module_grammar.specs.inside.ModuleStates.{with_value, enum_value_from}
 use Rattle.module_grammar.specs.inside.ModuleMachine.{number_read_step, enum_closed_step}
-use Rattle.module_grammar.specs.inside.ModuleMachine.{place_of_declaration}
+use Rattle.module_grammar.specs.inside.ModuleStates.{place_of_declaration}
 use Rattle.module_grammar.specs.inside.ModuleHolds.{PositionHolds, BegunStands, Then, Word}
 use Rattle.module_grammar.specs.inside.ModuleHolds.{NamedStands, Annotated, EnumOpen, ValuesStand}
 use Rattle.module_grammar.specs.inside.ModuleHolds.{AtLeastOne, NumberStands, AnnotationsEnd}

@@ -9,8 +9,8 @@ use Rattle.mdl_syntax.specs.Modules.{ModuleTree}
 use Rattle.module_grammar.specs.ModuleFaults.{WritesModule, ModuleOpens, ModuleOpensTo, IsWhole}
 use Rattle.module_grammar.specs.ModuleFaults.{IsMost, IsTooDeep, IsOtherVersion}
 use Rattle.expression_grammar.specs.Readings.{kinds}
-use Rattle.module_grammar.specs.inside.ModuleMachine.{State, Outcome, on, too_deep, mdl_wanted}
-use Rattle.module_grammar.specs.inside.ModuleMachine.{within, item_wanted}
+use Rattle.module_grammar.specs.inside.ModuleStates.{State, Outcome, on, too_deep, mdl_wanted}
+use Rattle.module_grammar.specs.inside.ModuleStates.{within, item_wanted}
 use Rattle.module_grammar.specs.inside.ModuleMachine.{module_step, module_taken, module_end}
 use Rattle.module_grammar.specs.inside.ModuleMachine.{ModuleRun, module_read}
 use Rattle.module_grammar.specs.inside.ModuleLeads.{ModuleLeads, here, next, IsWholeAt}

@@ -17,9 +17,10 @@ use Rattle.module_grammar.specs.ModuleFaults.{IsOtherVersion, IsStraySize, IsSiz
 use Rattle.module_grammar.specs.ModuleFaults.{too_deep, left_out, statement_body, other_version}
 use Rattle.expression_grammar.specs.Readings.{kinds}
 use Rattle.expression_grammar.specs.inside.Machine.{Sort, sort_of, from_to, equals}
-use Rattle.module_grammar.specs.inside.ModuleMachine.{Begun, Position, State, Outcome, on, wrong}
-use Rattle.module_grammar.specs.inside.ModuleMachine.{mdl_wanted, within, item_wanted, version_wanted}
-use Rattle.module_grammar.specs.inside.ModuleMachine.{version_read, module_step}
+use Rattle.module_grammar.specs.inside.ModuleStates.{Begun, Position, State, Outcome, on, wrong}
+use Rattle.module_grammar.specs.inside.ModuleStates.{mdl_wanted, within, item_wanted, version_wanted}
+use Rattle.module_grammar.specs.inside.ModuleMachine.{module_step}
+use Rattle.module_grammar.specs.inside.ModuleStates.{version_read}
 use Rattle.module_grammar.specs.inside.ModuleMachine.{module_sort_step, verdict_in, refused_here}
 use Rattle.module_grammar.specs.inside.ModuleLeads.{ModuleLeads, here, next}
 use Rattle.module_grammar.specs.inside.ModuleHeads.{size_in, IsItem}

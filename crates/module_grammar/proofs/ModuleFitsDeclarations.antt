@@ -14,10 +14,11 @@ use Rattle.mdl_syntax.specs.LevelledModules.{AreParameters, IsMaterial}
 use Rattle.mdl_syntax.specs.AcceptedModules.{highest, annotation_height, annotations_height, value_height}
 use Rattle.mdl_syntax.specs.AcceptedModules.{parameter_height, enum_value_height}
 use Rattle.mdl_syntax.specs.Modules.{Annotation, Parameter, EnumValue, Declaration}
-use Rattle.module_grammar.specs.inside.ModuleMachine.{Begun, Fronted, Named, Struct, Enum, on, with_import}
-use Rattle.module_grammar.specs.inside.ModuleMachine.{with_declaration, function_from, prototype_from, is_material}
-use Rattle.module_grammar.specs.inside.ModuleMachine.{is_material_form, is_one, variant_from}
-use Rattle.module_grammar.specs.inside.ModuleMachine.{place_of_declaration}
+use Rattle.module_grammar.specs.inside.ModuleStates.{Begun, Fronted, Named, Struct, Enum, on, with_import}
+use Rattle.module_grammar.specs.inside.ModuleStates.{with_declaration, function_from, prototype_from, is_material}
+use Rattle.module_grammar.specs.inside.ModuleMachine.{variant_from}
+use Rattle.module_grammar.specs.inside.ModuleStates.{is_material_form, is_one}
+use Rattle.module_grammar.specs.inside.ModuleStates.{place_of_declaration}
 use Rattle.mdl_syntax.specs.Modules.{material, function, structure, enumeration, annotation}
 use Rattle.module_grammar.specs.inside.ModuleFits.{AnnotationFits, AnnotationsFit, ValueFits, ParameterFits}
 use Rattle.module_grammar.specs.inside.ModuleFits.{ParametersFit, EnumValueFits, DeclarationFits, BegunFits}

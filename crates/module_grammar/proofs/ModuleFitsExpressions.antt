@@ -15,15 +15,17 @@ use Rattle.expression_grammar.specs.inside.Machine.{Sort, Mode, Frame, Step, Fin
 use Rattle.expression_grammar.specs.inside.Machine.{wanted}
 use Rattle.expression_grammar.specs.inside.Machine.{complete, finish, finished, ends_badly, ends_deep, mode_step}
 use Rattle.expression_grammar.specs.inside.Machine.{opening_bracket, closing_bracket}
-use Rattle.module_grammar.specs.inside.ModuleMachine.{Begun, Holder, Site, Outcome, on, wrong}
-use Rattle.module_grammar.specs.inside.ModuleMachine.{within, expression, opened, room_of}
-use Rattle.module_grammar.specs.inside.ModuleMachine.{in_function_body, in_default, in_field_default, in_annotation}
-use Rattle.module_grammar.specs.inside.ModuleMachine.{in_base, is_call_site, may_name, call_read, whole_call, call_goes}
+use Rattle.module_grammar.specs.inside.ModuleStates.{Begun, Holder, Site, Outcome, on, wrong}
+use Rattle.module_grammar.specs.inside.ModuleMachine.{room_of}
+use Rattle.module_grammar.specs.inside.ModuleStates.{within, expression, opened}
+use Rattle.module_grammar.specs.inside.ModuleStates.{in_function_body, in_default, in_field_default, in_annotation}
+use Rattle.module_grammar.specs.inside.ModuleMachine.{is_call_site, may_name, call_read, whole_call, call_goes}
+use Rattle.module_grammar.specs.inside.ModuleStates.{in_base}
 use Rattle.module_grammar.specs.inside.ModuleMachine.{call_outcome, expression_outcome, call_step, closes, closed_by}
 use Rattle.module_grammar.specs.inside.ModuleMachine.{is_bracket, by_finish, value_step_of}
 use Rattle.module_grammar.specs.inside.ModuleMachine.{expression_step, holder_of, annotations_behind, unless_wrong}
 use Rattle.module_grammar.specs.inside.ModuleMachine.{index_outcome, opened_step, first_annotation_step}
-use Rattle.module_grammar.specs.inside.ModuleMachine.{function_from, plain_parameter}
+use Rattle.module_grammar.specs.inside.ModuleStates.{function_from, plain_parameter}
 use Rattle.module_grammar.specs.inside.ModuleFits.{AnnotationFits, BegunFits, HolderFits, SiteFits, PositionFits}
 use Rattle.module_grammar.specs.inside.ModuleFits.{ModuleFits, StandsInCall, SiteSuits}
 use Rattle.module_grammar.proofs.ModuleCallModes.{InCall, StepInCall, call_mode_step, stands_in_call}
@@ -197,7 +199,8 @@ expression_fits limit begun (in_function_body fronted parameters frequency annot
     is begins fits inner stands =
     value_step_fits limit begun (in_function_body fronted parameters frequency annotations) mode frames sort place
     word is begins fits refl inner
-expression_fits limit begun (in_default owner parameters front) mode frames sort place word is begins fits inner stands =
+expression_fits limit begun (in_default owner parameters front) mode frames sort place word is begins fits inner
+    stands =
     value_step_fits limit begun (in_default owner parameters front) mode frames sort place word is begins fits
     refl inner
 expression_fits limit begun (in_field_default held front) mode frames sort place word is begins fits inner stands =

@@ -17,9 +17,10 @@ use Rattle.expression_grammar.specs.inside.Machine.{in_type, part_wanted, part_r
 use Rattle.expression_grammar.specs.inside.Machine.{type_bracketed, type_sized, deferred_wanted, deferred_read}
 use Rattle.expression_grammar.specs.inside.Machine.{deferred_closed, name_wanted, equals_wanted, type_step, head_step}
 use Rattle.expression_grammar.specs.inside.Machine.{mode_step, type_name_step}
-use Rattle.module_grammar.specs.inside.ModuleMachine.{Begun, Named, Owner, Fronting, Outcome, on}
-use Rattle.module_grammar.specs.inside.ModuleMachine.{of_declaration, of_parameter, of_field, of_function}
-use Rattle.module_grammar.specs.inside.ModuleMachine.{of_annotation, deferred_owner, named_state, front_goes}
+use Rattle.module_grammar.specs.inside.ModuleStates.{Begun, Named, Owner, Fronting, Outcome, on}
+use Rattle.module_grammar.specs.inside.ModuleStates.{of_declaration, of_parameter, of_field, of_function}
+use Rattle.module_grammar.specs.inside.ModuleMachine.{deferred_owner, named_state, front_goes}
+use Rattle.module_grammar.specs.inside.ModuleStates.{of_annotation}
 use Rattle.module_grammar.specs.inside.ModuleMachine.{front_outcome, deferred_state}
 use Rattle.module_grammar.specs.inside.ModuleFits.{IsTypeMode, ModuleFits, BegunFits, FrontingFits, OwnerFits}
 use Rattle.module_grammar.proofs.ModuleFitsParts.{one_more}

@@ -12,11 +12,14 @@ use Rattle.mdl_syntax.specs.declared.imports.Import.TheVariants as import_form
 use Rattle.mdl_syntax.specs.LevelledModules.{IsModuleName}
 use Rattle.expression_grammar.specs.inside.Machine.{Sort, identifier, other_literal, binary_operator, comma, semicolon}
 use Rattle.expression_grammar.specs.inside.Machine.{equals, import_word, from_to, ident_at}
-use Rattle.module_grammar.specs.inside.ModuleMachine.{Begun, Naming, State, Outcome, on, wrong, within, unnamed, parted}
-use Rattle.module_grammar.specs.inside.ModuleMachine.{open_ended, importing, imported, using, used_all, naming_or}
-use Rattle.module_grammar.specs.inside.ModuleMachine.{naming_step, import_ends, import_item, import_step, all_of}
+use Rattle.module_grammar.specs.inside.ModuleStates.{Begun, Naming, State, Outcome, on, wrong, within, unnamed, parted}
+use Rattle.module_grammar.specs.inside.ModuleMachine.{naming_or}
+use Rattle.module_grammar.specs.inside.ModuleStates.{open_ended, importing, imported, using, used_all}
+use Rattle.module_grammar.specs.inside.ModuleMachine.{import_ends, import_item, import_step, all_of}
+use Rattle.module_grammar.specs.inside.ModuleStates.{naming_step}
 use Rattle.module_grammar.specs.inside.ModuleMachine.{using_step, used_wanted_step, used_read_step, used_next_step}
-use Rattle.module_grammar.specs.inside.ModuleMachine.{used_all_step, qualified_from, is_star}
+use Rattle.module_grammar.specs.inside.ModuleMachine.{used_all_step}
+use Rattle.module_grammar.specs.inside.ModuleStates.{qualified_from, is_star}
 use Rattle.module_grammar.specs.inside.ModuleFits.{ModuleFits, BegunFits, QualifiedFits, NamingFits}
 use Rattle.module_grammar.proofs.ModuleFitsParts.{all_and_one, one_more, NamingKept, naming_fits, QualifiedKept}
 use Rattle.module_grammar.proofs.ModuleFitsParts.{qualified_fits}

@@ -13,25 +13,28 @@ use Rattle.expression_grammar.specs.inside.Sorts.{IsOf}
 use Rattle.expression_grammar.specs.inside.Machine.{Sort, sort_of, from_to, left_out, other_literal, semicolon}
 use Rattle.expression_grammar.specs.inside.Machine.{mdl_word}
 use Rattle.expression_grammar.specs.inside.Machine.{mode_step}
-use Rattle.module_grammar.specs.inside.ModuleMachine.{Begun, Position, State, Outcome, ModuleRun, on}
-use Rattle.module_grammar.specs.inside.ModuleMachine.{wrong, too_deep, leaves_out, statement_body}
-use Rattle.module_grammar.specs.inside.ModuleMachine.{other_version, mdl_wanted, version_wanted}
-use Rattle.module_grammar.specs.inside.ModuleMachine.{version_read, within, item_wanted, importing}
-use Rattle.module_grammar.specs.inside.ModuleMachine.{imported, using, used_wanted, used_read}
-use Rattle.module_grammar.specs.inside.ModuleMachine.{used_next, used_all, own_wanted}
-use Rattle.module_grammar.specs.inside.ModuleMachine.{annotations_begun, first_annotation}
-use Rattle.module_grammar.specs.inside.ModuleMachine.{annotation_read, annotations_closing, annotated}
-use Rattle.module_grammar.specs.inside.ModuleMachine.{exported_read, kin_named, annotation_named}
-use Rattle.module_grammar.specs.inside.ModuleMachine.{fronting, declared, parameters_begun, star_read}
-use Rattle.module_grammar.specs.inside.ModuleMachine.{variant_read, base_read, parameter_read}
-use Rattle.module_grammar.specs.inside.ModuleMachine.{parameter_next, function_read}
-use Rattle.module_grammar.specs.inside.ModuleMachine.{annotation_declared, struct_named, fields_read}
-use Rattle.module_grammar.specs.inside.ModuleMachine.{field_read, enum_named, value_wanted, value_read}
-use Rattle.module_grammar.specs.inside.ModuleMachine.{number_wanted, number_read, struct_closed}
-use Rattle.module_grammar.specs.inside.ModuleMachine.{enum_closed, expression, opened, position_step}
+use Rattle.module_grammar.specs.inside.ModuleMachine.{ModuleRun}
+use Rattle.module_grammar.specs.inside.ModuleStates.{Begun, Position, State, Outcome, on}
+use Rattle.module_grammar.specs.inside.ModuleStates.{wrong, too_deep, leaves_out, statement_body}
+use Rattle.module_grammar.specs.inside.ModuleStates.{other_version, mdl_wanted, version_wanted}
+use Rattle.module_grammar.specs.inside.ModuleStates.{version_read, within, item_wanted, importing}
+use Rattle.module_grammar.specs.inside.ModuleStates.{imported, using, used_wanted, used_read}
+use Rattle.module_grammar.specs.inside.ModuleStates.{used_next, used_all, own_wanted}
+use Rattle.module_grammar.specs.inside.ModuleStates.{annotations_begun, first_annotation}
+use Rattle.module_grammar.specs.inside.ModuleStates.{annotation_read, annotations_closing, annotated}
+use Rattle.module_grammar.specs.inside.ModuleStates.{exported_read, kin_named, annotation_named}
+use Rattle.module_grammar.specs.inside.ModuleStates.{fronting, declared, parameters_begun, star_read}
+use Rattle.module_grammar.specs.inside.ModuleStates.{variant_read, base_read, parameter_read}
+use Rattle.module_grammar.specs.inside.ModuleStates.{parameter_next, function_read}
+use Rattle.module_grammar.specs.inside.ModuleStates.{annotation_declared, struct_named, fields_read}
+use Rattle.module_grammar.specs.inside.ModuleStates.{field_read, enum_named, value_wanted, value_read}
+use Rattle.module_grammar.specs.inside.ModuleStates.{number_wanted, number_read, struct_closed}
+use Rattle.module_grammar.specs.inside.ModuleMachine.{position_step}
+use Rattle.module_grammar.specs.inside.ModuleStates.{enum_closed, expression, opened}
 use Rattle.module_grammar.specs.inside.ModuleMachine.{version_step, version_ends}
 use Rattle.module_grammar.specs.inside.ModuleMachine.{state_step, module_sort_step, module_step}
-use Rattle.module_grammar.specs.inside.ModuleMachine.{verdict_in, judged, permitted_state, waits}
+use Rattle.module_grammar.specs.inside.ModuleMachine.{verdict_in, judged, permitted_state}
+use Rattle.module_grammar.specs.inside.ModuleStates.{waits}
 use Rattle.module_grammar.specs.inside.ModuleMachine.{Verdict, passes, refused_here, refused_before, undecided}
 use Rattle.module_grammar.specs.inside.ModuleMachine.{permitted, module_taken, module_end, module_read}
 use Rattle.module_grammar.specs.inside.ModuleLeads.{ModuleLeads, here, next, ModuleEnds}

@@ -7,9 +7,9 @@ use Rattle.mdl_syntax.specs.declared.names.Ident.{Ident}
 use Rattle.mdl_syntax.specs.declared.imports.Lead.{Lead}
 use Rattle.mdl_syntax.specs.AcceptedModules.{highest}
 use Rattle.expression_grammar.specs.inside.Machine.{Sort, identifier, double_colon, dot, ident_at}
-use Rattle.module_grammar.specs.inside.ModuleMachine.{Naming, naming_step, qualified_from}
-use Rattle.module_grammar.specs.inside.ModuleMachine.{unnamed, one_dot, two_dots, up_steps, one_dot_behind, led}
-use Rattle.module_grammar.specs.inside.ModuleMachine.{parted, open_ended}
+use Rattle.module_grammar.specs.inside.ModuleStates.{Naming, naming_step, qualified_from}
+use Rattle.module_grammar.specs.inside.ModuleStates.{unnamed, one_dot, two_dots, up_steps, one_dot_behind, led}
+use Rattle.module_grammar.specs.inside.ModuleStates.{parted, open_ended}
 use Rattle.module_grammar.specs.inside.ModuleFits.{NamingFits, QualifiedFits}
 use Rattle.mdl_syntax.specs.declared.imports.Qualified.{Qualified}
 use Rattle.mdl_syntax.specs.LevelledModules.{IsLead}

@@ -13,15 +13,17 @@ use Rattle.expression_grammar.specs.inside.Machine.{comma}
 use Rattle.expression_grammar.specs.inside.Machine.{semicolon, equals, frequency_word, import_word, using_word}
 use Rattle.expression_grammar.specs.inside.Machine.{module_word, export_word, struct_word, enum_word, annotation_word}
 use Rattle.expression_grammar.specs.inside.Machine.{head_step, type_step}
-use Rattle.module_grammar.specs.inside.ModuleMachine.{Begun, Named, Fronted, Front, Owner, Struct}
-use Rattle.module_grammar.specs.inside.ModuleMachine.{Enum, Holder, Fronting, Kin, wrong, of_function}
-use Rattle.module_grammar.specs.inside.ModuleMachine.{of_annotation, the_module, a_parameter}
-use Rattle.module_grammar.specs.inside.ModuleMachine.{a_function, an_annotation, a_variant, a_struct}
-use Rattle.module_grammar.specs.inside.ModuleMachine.{a_field, an_enum, an_enum_value, of_declaration}
-use Rattle.module_grammar.specs.inside.ModuleMachine.{of_parameter, of_field, struct_kin, enum_kin}
-use Rattle.module_grammar.specs.inside.ModuleMachine.{annotation_kin, plain_parameter, parameter_from}
-use Rattle.module_grammar.specs.inside.ModuleMachine.{enum_value_from, prototype_from, variant_from}
-use Rattle.module_grammar.specs.inside.ModuleMachine.{no_frequency, is_star, first_front_step}
+use Rattle.module_grammar.specs.inside.ModuleStates.{Begun, Named, Fronted, Front, Owner, Struct}
+use Rattle.module_grammar.specs.inside.ModuleStates.{Enum, Holder, Fronting, Kin, wrong, of_function}
+use Rattle.module_grammar.specs.inside.ModuleStates.{of_annotation, the_module, a_parameter}
+use Rattle.module_grammar.specs.inside.ModuleStates.{a_function, an_annotation, a_variant, a_struct}
+use Rattle.module_grammar.specs.inside.ModuleStates.{a_field, an_enum, an_enum_value, of_declaration}
+use Rattle.module_grammar.specs.inside.ModuleStates.{of_parameter, of_field, struct_kin, enum_kin}
+use Rattle.module_grammar.specs.inside.ModuleStates.{annotation_kin, plain_parameter, parameter_from}
+use Rattle.module_grammar.specs.inside.ModuleMachine.{variant_from}
+use Rattle.module_grammar.specs.inside.ModuleStates.{enum_value_from, prototype_from}
+use Rattle.module_grammar.specs.inside.ModuleMachine.{no_frequency, first_front_step}
+use Rattle.module_grammar.specs.inside.ModuleStates.{is_star}
 use Rattle.module_grammar.specs.inside.ModuleMachine.{declaration_step, item_step, exported_step}
 use Rattle.module_grammar.specs.inside.ModuleMachine.{kin_state, kin_step, annotation_named_step}
 use Rattle.module_grammar.specs.inside.ModuleMachine.{declared_step, parameters_state, star_step}

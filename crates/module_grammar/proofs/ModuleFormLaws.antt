@@ -31,8 +31,9 @@ use Rattle.expression_grammar.specs.Readings.{kinds}
 use Rattle.expression_grammar.specs.inside.Machine.{from_to}
 use Rattle.expression_grammar.specs.inside.Stands.{Stands, TypeStands}
 use Rattle.module_grammar.specs.inside.ModuleParts.{Part, First}
-use Rattle.module_grammar.specs.inside.ModuleMachine.{Fronted, is_material_form, is_one, is_material}
-use Rattle.module_grammar.specs.inside.ModuleMachine.{function_from, variant_from}
+use Rattle.module_grammar.specs.inside.ModuleStates.{Fronted, is_material_form, is_one, is_material}
+use Rattle.module_grammar.specs.inside.ModuleMachine.{variant_from}
+use Rattle.module_grammar.specs.inside.ModuleStates.{function_from}
 use Rattle.module_grammar.specs.inside.ModuleHolds.{Word, Annotated, ValueBehind, ParametersStand}
 use Rattle.expression_grammar.proofs.KindLaws.{kinds_append, length_kinds, behind_front, front_of}
 use Rattle.expression_grammar.proofs.KindLaws.{name_front}

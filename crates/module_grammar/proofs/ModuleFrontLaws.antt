@@ -25,12 +25,13 @@ use Rattle.expression_grammar.specs.inside.Sound.{Around, nothing, HeadStands, w
 use Rattle.expression_grammar.specs.inside.Sound.{without_frequency, of_type, Holds, equals_is_wanted}
 use Rattle.expression_grammar.specs.inside.Sound.{place}
 use Rattle.module_grammar.specs.inside.ModuleParts.{First}
-use Rattle.module_grammar.specs.inside.ModuleMachine.{Begun, Named, Owner, of_function}
-use Rattle.module_grammar.specs.inside.ModuleMachine.{of_annotation, Fronting, of_declaration}
-use Rattle.module_grammar.specs.inside.ModuleMachine.{of_parameter, of_field, deferred_owner}
+use Rattle.module_grammar.specs.inside.ModuleStates.{Begun, Named, Owner, of_function}
+use Rattle.module_grammar.specs.inside.ModuleStates.{of_annotation, Fronting, of_declaration}
+use Rattle.module_grammar.specs.inside.ModuleMachine.{deferred_owner}
+use Rattle.module_grammar.specs.inside.ModuleStates.{of_parameter, of_field}
 use Rattle.module_grammar.specs.inside.ModuleMachine.{front_from, named_state, deferred_state}
 use Rattle.module_grammar.specs.inside.ModuleMachine.{front_goes, front_outcome}
-use Rattle.module_grammar.specs.inside.ModuleMachine.{on, within, fronting}
+use Rattle.module_grammar.specs.inside.ModuleStates.{on, within, fronting}
 use Rattle.module_grammar.specs.inside.ModuleHolds.{HeadIn, HeadOf, FrontBase, FrontStands}
 use Rattle.module_grammar.specs.inside.ModuleHolds.{BegunStands, OwnerStands, ParametersOpen}
 use Rattle.module_grammar.specs.inside.ModuleHolds.{ModuleHolds, WithinHolds}

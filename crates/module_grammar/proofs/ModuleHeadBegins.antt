@@ -9,19 +9,20 @@ use Rattle.mdl_syntax.specs.declared.imports.Qualified.{Qualified}
 use Rattle.mdl_syntax.specs.Modules.{Annotation, Parameter}
 use Rattle.expression_grammar.specs.inside.Machine.{Mode, sort_of, opening_bracket, from_to, is_deferred}
 use Rattle.expression_grammar.specs.inside.Machine.{finish, wanted}
-use Rattle.module_grammar.specs.inside.ModuleMachine.{Begun, Fronted, Position, Holder, Naming, State}
-use Rattle.module_grammar.specs.inside.ModuleMachine.{on, within, mdl_wanted, of_function}
-use Rattle.module_grammar.specs.inside.ModuleMachine.{of_parameter, in_annotation, unnamed, one_dot}
-use Rattle.module_grammar.specs.inside.ModuleMachine.{two_dots, up_steps, one_dot_behind, led, parted}
-use Rattle.module_grammar.specs.inside.ModuleMachine.{open_ended, item_wanted, importing, using}
-use Rattle.module_grammar.specs.inside.ModuleMachine.{own_wanted, annotations_begun, first_annotation}
-use Rattle.module_grammar.specs.inside.ModuleMachine.{annotated, fronting, variant_read}
-use Rattle.module_grammar.specs.inside.ModuleMachine.{parameter_read, function_read}
-use Rattle.module_grammar.specs.inside.ModuleMachine.{annotation_declared, struct_named, field_read}
-use Rattle.module_grammar.specs.inside.ModuleMachine.{enum_named, value_read, number_read, expression}
-use Rattle.module_grammar.specs.inside.ModuleMachine.{opened, the_module, a_parameter, a_function}
-use Rattle.module_grammar.specs.inside.ModuleMachine.{an_annotation, a_variant, a_struct, a_field}
-use Rattle.module_grammar.specs.inside.ModuleMachine.{an_enum, an_enum_value, position_step}
+use Rattle.module_grammar.specs.inside.ModuleStates.{Begun, Fronted, Position, Holder, Naming, State}
+use Rattle.module_grammar.specs.inside.ModuleStates.{on, within, mdl_wanted, of_function}
+use Rattle.module_grammar.specs.inside.ModuleStates.{of_parameter, in_annotation, unnamed, one_dot}
+use Rattle.module_grammar.specs.inside.ModuleStates.{two_dots, up_steps, one_dot_behind, led, parted}
+use Rattle.module_grammar.specs.inside.ModuleStates.{open_ended, item_wanted, importing, using}
+use Rattle.module_grammar.specs.inside.ModuleStates.{own_wanted, annotations_begun, first_annotation}
+use Rattle.module_grammar.specs.inside.ModuleStates.{annotated, fronting, variant_read}
+use Rattle.module_grammar.specs.inside.ModuleStates.{parameter_read, function_read}
+use Rattle.module_grammar.specs.inside.ModuleStates.{annotation_declared, struct_named, field_read}
+use Rattle.module_grammar.specs.inside.ModuleStates.{enum_named, value_read, number_read, expression}
+use Rattle.module_grammar.specs.inside.ModuleStates.{opened, the_module, a_parameter, a_function}
+use Rattle.module_grammar.specs.inside.ModuleStates.{an_annotation, a_variant, a_struct, a_field}
+use Rattle.module_grammar.specs.inside.ModuleMachine.{position_step}
+use Rattle.module_grammar.specs.inside.ModuleStates.{an_enum, an_enum_value}
 use Rattle.module_grammar.specs.inside.ModuleMachine.{import_step, using_step, annotated_step}
 use Rattle.module_grammar.specs.inside.ModuleMachine.{function_step, item_step, module_sort_step}
 use Rattle.module_grammar.specs.inside.ModuleMachine.{module_step, module_taken}

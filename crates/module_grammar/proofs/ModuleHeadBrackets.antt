@@ -17,12 +17,13 @@ use Rattle.expression_grammar.specs.inside.Machine.{in_type, part_wanted, part_r
 use Rattle.expression_grammar.specs.inside.Machine.{type_wanted, type_bracketed, type_sized}
 use Rattle.expression_grammar.specs.inside.Machine.{deferred_wanted, deferred_read, deferred_closed}
 use Rattle.expression_grammar.specs.inside.Machine.{name_wanted, equals_wanted}
-use Rattle.module_grammar.specs.inside.ModuleMachine.{Begun, Named, Site, State, Outcome, Fronting, on}
-use Rattle.module_grammar.specs.inside.ModuleMachine.{wrong, within, of_function, of_annotation}
-use Rattle.module_grammar.specs.inside.ModuleMachine.{of_declaration, of_parameter, of_field}
-use Rattle.module_grammar.specs.inside.ModuleMachine.{in_function_body, in_default, in_field_default}
-use Rattle.module_grammar.specs.inside.ModuleMachine.{in_annotation, in_base, fronting, expression}
-use Rattle.module_grammar.specs.inside.ModuleMachine.{opened, state_step, front_outcome, call_step}
+use Rattle.module_grammar.specs.inside.ModuleStates.{Begun, Named, Site, State, Outcome, Fronting, on}
+use Rattle.module_grammar.specs.inside.ModuleStates.{wrong, within, of_function, of_annotation}
+use Rattle.module_grammar.specs.inside.ModuleStates.{of_declaration, of_parameter, of_field}
+use Rattle.module_grammar.specs.inside.ModuleStates.{in_function_body, in_default, in_field_default}
+use Rattle.module_grammar.specs.inside.ModuleStates.{in_annotation, in_base, fronting, expression}
+use Rattle.module_grammar.specs.inside.ModuleMachine.{state_step, front_outcome, call_step}
+use Rattle.module_grammar.specs.inside.ModuleStates.{opened}
 use Rattle.module_grammar.specs.inside.ModuleMachine.{call_outcome, whole_call, call_goes, may_name}
 use Rattle.module_grammar.specs.inside.ModuleMachine.{expression_step, value_step_of}
 use Rattle.module_grammar.specs.inside.ModuleMachine.{expression_outcome, is_call_site, closes}

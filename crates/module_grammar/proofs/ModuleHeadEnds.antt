@@ -10,12 +10,14 @@ use Rattle.expression_grammar.specs.inside.Machine.{Sort, sort_of, from_to, semi
 use Rattle.expression_grammar.specs.inside.Machine.{opening_brace, wanted, Mode, Frame, Step, Finish, goes}
 use Rattle.expression_grammar.specs.inside.Machine.{bad, deep, is_left_out, left_out, finished, ends_badly}
 use Rattle.expression_grammar.specs.inside.Machine.{ends_deep, mode_step, finish, opening_bracket}
-use Rattle.module_grammar.specs.inside.ModuleMachine.{Site, Outcome, opened, wrong, expression_outcome}
+use Rattle.module_grammar.specs.inside.ModuleMachine.{expression_outcome}
+use Rattle.module_grammar.specs.inside.ModuleStates.{Site, Outcome, opened, wrong}
 use Rattle.module_grammar.specs.inside.ModuleMachine.{unless_wrong, index_outcome, annotations_behind}
-use Rattle.module_grammar.specs.inside.ModuleMachine.{is_bracket, Begun, Fronted, Position, State, on}
-use Rattle.module_grammar.specs.inside.ModuleMachine.{within, item_wanted, function_read, annotated}
-use Rattle.module_grammar.specs.inside.ModuleMachine.{a_function, statement_body, with_declaration}
-use Rattle.module_grammar.specs.inside.ModuleMachine.{prototype_from, expression, in_function_body}
+use Rattle.module_grammar.specs.inside.ModuleMachine.{is_bracket}
+use Rattle.module_grammar.specs.inside.ModuleStates.{Begun, Fronted, Position, State, on}
+use Rattle.module_grammar.specs.inside.ModuleStates.{within, item_wanted, function_read, annotated}
+use Rattle.module_grammar.specs.inside.ModuleStates.{a_function, statement_body, with_declaration}
+use Rattle.module_grammar.specs.inside.ModuleStates.{prototype_from, expression, in_function_body}
 use Rattle.module_grammar.specs.inside.ModuleMachine.{module_sort_step, module_step}
 use Rattle.module_grammar.specs.inside.ModuleHeads.{size_in, IsHead, IsItem}
 use Rattle.expression_grammar.specs.inside.Sorts.{IsOf}

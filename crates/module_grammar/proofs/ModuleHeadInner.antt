@@ -12,19 +12,20 @@ use Rattle.expression_grammar.specs.inside.Machine.{Sort, Mode, Frame, Step, Fin
 use Rattle.expression_grammar.specs.inside.Machine.{goes, bad, deep, is_left_out, finished, ends_badly}
 use Rattle.expression_grammar.specs.inside.Machine.{ends_deep, complete, wanted, closing_bracket}
 use Rattle.expression_grammar.specs.inside.Machine.{opening_bracket, other_literal, semicolon}
-use Rattle.module_grammar.specs.inside.ModuleMachine.{Begun, Fronted, Position, Holder, Site, State}
-use Rattle.module_grammar.specs.inside.ModuleMachine.{Outcome, on, wrong, within, in_function_body}
-use Rattle.module_grammar.specs.inside.ModuleMachine.{in_default, in_field_default, in_annotation}
-use Rattle.module_grammar.specs.inside.ModuleMachine.{in_base, expression, opened, first_annotation}
+use Rattle.module_grammar.specs.inside.ModuleStates.{Begun, Fronted, Position, Holder, Site, State}
+use Rattle.module_grammar.specs.inside.ModuleStates.{Outcome, on, wrong, within, in_function_body}
+use Rattle.module_grammar.specs.inside.ModuleStates.{in_default, in_field_default, in_annotation}
+use Rattle.module_grammar.specs.inside.ModuleStates.{in_base, expression, opened, first_annotation}
 use Rattle.module_grammar.specs.inside.ModuleMachine.{call_read, whole_call, call_goes, call_outcome}
 use Rattle.module_grammar.specs.inside.ModuleMachine.{call_step, expression_outcome, may_name, closes}
 use Rattle.module_grammar.specs.inside.ModuleMachine.{closed_by, is_bracket, by_finish, value_step_of}
 use Rattle.module_grammar.specs.inside.ModuleMachine.{expression_step, is_call_site}
 use Rattle.module_grammar.specs.inside.ModuleMachine.{annotations_behind, unless_wrong, index_outcome}
 use Rattle.module_grammar.specs.inside.ModuleMachine.{opened_step, first_annotation_step}
-use Rattle.module_grammar.specs.inside.ModuleMachine.{function_from, is_material, place_of_declaration}
-use Rattle.module_grammar.specs.inside.ModuleMachine.{plain_parameter, version_step, version_ends}
-use Rattle.module_grammar.specs.inside.ModuleMachine.{version_wanted, version_read}
+use Rattle.module_grammar.specs.inside.ModuleStates.{function_from, is_material, place_of_declaration}
+use Rattle.module_grammar.specs.inside.ModuleMachine.{version_step, version_ends}
+use Rattle.module_grammar.specs.inside.ModuleStates.{plain_parameter}
+use Rattle.module_grammar.specs.inside.ModuleStates.{version_wanted, version_read}
 use Rattle.module_grammar.specs.inside.ModuleHeads.{size_in, deferred_of, fronted_of_site}
 use Rattle.module_grammar.specs.inside.ModuleHolds.{IsDefault}
 use Rattle.module_grammar.proofs.ModuleHeadKinds.{InAnnotation, AnnotationSite, Change, Changes}

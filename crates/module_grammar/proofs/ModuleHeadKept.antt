@@ -3,8 +3,9 @@ use Rattle.std.proofs.Common.{◌≡◌, ◌⊎◌, inl, inr, sym, subst, refl, 
 use Rattle.std.proofs.Common.{[], ◌∷◌, ◌++◌, Some, length, length-append}
 use Rattle.std.proofs.lemmas.List.{append_assoc}
 use Rattle.mdl_lexer.specs.declared.token.Token.{Token}
-use Rattle.module_grammar.specs.inside.ModuleMachine.{Begun, State, on, mdl_wanted, within}
-use Rattle.module_grammar.specs.inside.ModuleMachine.{item_wanted, module_step, module_taken}
+use Rattle.module_grammar.specs.inside.ModuleStates.{Begun, State, on, mdl_wanted, within}
+use Rattle.module_grammar.specs.inside.ModuleMachine.{module_step, module_taken}
+use Rattle.module_grammar.specs.inside.ModuleStates.{item_wanted}
 use Rattle.module_grammar.specs.inside.ModuleLeads.{ModuleLeads, here, next, IsWholeAt}
 use Rattle.module_grammar.specs.inside.ModuleHeads.{size_in, IsItem}
 use Rattle.expression_grammar.proofs.PlaceLaws.{take_with}

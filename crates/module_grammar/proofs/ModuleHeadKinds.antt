@@ -4,16 +4,16 @@ use Rattle.std.proofs.Common.{if◌then◌else◌}
 use Rattle.mdl_syntax.specs.Modules.{Declaration}
 use Rattle.module_grammar.specs.ModuleFaults.{IsPrototype}
 use Rattle.expression_grammar.specs.inside.Machine.{Sort, deferred_wanted, opening_brace}
-use Rattle.module_grammar.specs.inside.ModuleMachine.{Owner, Holder, Site, Kin, State, Outcome}
-use Rattle.module_grammar.specs.inside.ModuleMachine.{of_function, of_annotation, a_parameter}
-use Rattle.module_grammar.specs.inside.ModuleMachine.{an_annotation, in_default, in_annotation}
-use Rattle.module_grammar.specs.inside.ModuleMachine.{annotation_kin, of_parameter, within}
-use Rattle.module_grammar.specs.inside.ModuleMachine.{annotations_begun, first_annotation}
-use Rattle.module_grammar.specs.inside.ModuleMachine.{annotation_read, annotations_closing, annotated}
-use Rattle.module_grammar.specs.inside.ModuleMachine.{kin_named, annotation_named, fronting}
-use Rattle.module_grammar.specs.inside.ModuleMachine.{parameters_begun, parameter_read, parameter_next}
-use Rattle.module_grammar.specs.inside.ModuleMachine.{annotation_declared, expression, opened, on}
-use Rattle.module_grammar.specs.inside.ModuleMachine.{statement_body}
+use Rattle.module_grammar.specs.inside.ModuleStates.{Owner, Holder, Site, Kin, State, Outcome}
+use Rattle.module_grammar.specs.inside.ModuleStates.{of_function, of_annotation, a_parameter}
+use Rattle.module_grammar.specs.inside.ModuleStates.{an_annotation, in_default, in_annotation}
+use Rattle.module_grammar.specs.inside.ModuleStates.{annotation_kin, of_parameter, within}
+use Rattle.module_grammar.specs.inside.ModuleStates.{annotations_begun, first_annotation}
+use Rattle.module_grammar.specs.inside.ModuleStates.{annotation_read, annotations_closing, annotated}
+use Rattle.module_grammar.specs.inside.ModuleStates.{kin_named, annotation_named, fronting}
+use Rattle.module_grammar.specs.inside.ModuleStates.{parameters_begun, parameter_read, parameter_next}
+use Rattle.module_grammar.specs.inside.ModuleStates.{annotation_declared, expression, opened, on}
+use Rattle.module_grammar.specs.inside.ModuleStates.{statement_body}
 use Rattle.module_grammar.specs.inside.ModuleHeads.{size_in, IsHead, IsItem}
 use Rattle.module_grammar.specs.inside.ModuleHolds.{ModuleHolds, IsDefault}
 use Rattle.mdl_lexer.specs.declared.token.Token.{Token}

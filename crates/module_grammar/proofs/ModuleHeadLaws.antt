@@ -3,22 +3,23 @@ use Rattle.std.proofs.Common.{◌≡◌, ◌⊎◌, inl, inr, ◌∙◌, sym, su
 use Rattle.mdl_lexer.specs.declared.token.Token.{Token}
 use Rattle.mdl_syntax.specs.declared.names.Span.{Span}
 use Rattle.expression_grammar.specs.inside.Machine.{Sort, sort_of, from_to, mode_step, left_out, mdl_word}
-use Rattle.module_grammar.specs.inside.ModuleMachine.{Begun, Position, State, on, mdl_wanted}
-use Rattle.module_grammar.specs.inside.ModuleMachine.{version_wanted, version_read, within}
-use Rattle.module_grammar.specs.inside.ModuleMachine.{item_wanted, importing, imported, using}
-use Rattle.module_grammar.specs.inside.ModuleMachine.{used_wanted, used_read, used_next, used_all}
-use Rattle.module_grammar.specs.inside.ModuleMachine.{own_wanted, annotations_begun, first_annotation}
-use Rattle.module_grammar.specs.inside.ModuleMachine.{annotation_read, annotations_closing, annotated}
-use Rattle.module_grammar.specs.inside.ModuleMachine.{exported_read, kin_named, annotation_named}
-use Rattle.module_grammar.specs.inside.ModuleMachine.{fronting, declared, parameters_begun, star_read}
-use Rattle.module_grammar.specs.inside.ModuleMachine.{variant_read, base_read, parameter_read}
-use Rattle.module_grammar.specs.inside.ModuleMachine.{parameter_next, function_read}
-use Rattle.module_grammar.specs.inside.ModuleMachine.{annotation_declared, struct_named, fields_read}
-use Rattle.module_grammar.specs.inside.ModuleMachine.{field_read, enum_named, value_wanted, value_read}
-use Rattle.module_grammar.specs.inside.ModuleMachine.{number_wanted, number_read, struct_closed}
-use Rattle.module_grammar.specs.inside.ModuleMachine.{enum_closed, expression, opened, position_step}
+use Rattle.module_grammar.specs.inside.ModuleStates.{Begun, Position, State, on, mdl_wanted}
+use Rattle.module_grammar.specs.inside.ModuleStates.{version_wanted, version_read, within}
+use Rattle.module_grammar.specs.inside.ModuleStates.{item_wanted, importing, imported, using}
+use Rattle.module_grammar.specs.inside.ModuleStates.{used_wanted, used_read, used_next, used_all}
+use Rattle.module_grammar.specs.inside.ModuleStates.{own_wanted, annotations_begun, first_annotation}
+use Rattle.module_grammar.specs.inside.ModuleStates.{annotation_read, annotations_closing, annotated}
+use Rattle.module_grammar.specs.inside.ModuleStates.{exported_read, kin_named, annotation_named}
+use Rattle.module_grammar.specs.inside.ModuleStates.{fronting, declared, parameters_begun, star_read}
+use Rattle.module_grammar.specs.inside.ModuleStates.{variant_read, base_read, parameter_read}
+use Rattle.module_grammar.specs.inside.ModuleStates.{parameter_next, function_read}
+use Rattle.module_grammar.specs.inside.ModuleStates.{annotation_declared, struct_named, fields_read}
+use Rattle.module_grammar.specs.inside.ModuleStates.{field_read, enum_named, value_wanted, value_read}
+use Rattle.module_grammar.specs.inside.ModuleStates.{number_wanted, number_read, struct_closed}
+use Rattle.module_grammar.specs.inside.ModuleMachine.{position_step}
+use Rattle.module_grammar.specs.inside.ModuleStates.{enum_closed, expression, opened}
 use Rattle.module_grammar.specs.inside.ModuleMachine.{state_step, module_sort_step, module_step}
-use Rattle.module_grammar.specs.inside.ModuleMachine.{a_function}
+use Rattle.module_grammar.specs.inside.ModuleStates.{a_function}
 use Rattle.module_grammar.specs.inside.ModuleHeads.{size_in, IsHead, IsItem}
 use Rattle.module_grammar.proofs.ModuleHeadKinds.{InAnnotation, MayStand, Change, Changes, stays_so}
 use Rattle.module_grammar.proofs.ModuleHeadKinds.{ends_there, defers_first, IsDeferredFront}

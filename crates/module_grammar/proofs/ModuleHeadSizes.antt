@@ -7,8 +7,9 @@ use Rattle.std.proofs.lemmas.Option.{none-some}
 use Rattle.mdl_lexer.specs.declared.token.Token.{Token}
 use Rattle.expression_grammar.specs.Readings.{kinds}
 use Rattle.expression_grammar.specs.inside.Machine.{deferred_wanted}
-use Rattle.module_grammar.specs.inside.ModuleMachine.{State, on, mdl_wanted, within, fronting}
-use Rattle.module_grammar.specs.inside.ModuleMachine.{item_wanted, module_taken}
+use Rattle.module_grammar.specs.inside.ModuleStates.{State, on, mdl_wanted, within, fronting}
+use Rattle.module_grammar.specs.inside.ModuleMachine.{module_taken}
+use Rattle.module_grammar.specs.inside.ModuleStates.{item_wanted}
 use Rattle.module_grammar.specs.inside.ModuleLeads.{ModuleLeads, here, next, IsWholeAt}
 use Rattle.module_grammar.specs.inside.ModuleHeads.{size_in, IsItem, SizeStands}
 use Rattle.module_grammar.specs.inside.ModuleHolds.{ModuleHolds}

@@ -19,15 +19,16 @@ use Rattle.expression_grammar.specs.inside.Machine.{using_word, module_word, exp
 use Rattle.expression_grammar.specs.inside.Machine.{enum_word, annotation_word, goes, bad, deep}
 use Rattle.expression_grammar.specs.inside.Machine.{is_left_out, head_step, type_step, equals_wanted}
 use Rattle.expression_grammar.specs.inside.Machine.{deferred_wanted}
-use Rattle.module_grammar.specs.inside.ModuleMachine.{Begun, Named, Fronted, Front, Owner, Struct}
-use Rattle.module_grammar.specs.inside.ModuleMachine.{Position, Enum, Holder, Fronting, Kin, Naming}
-use Rattle.module_grammar.specs.inside.ModuleMachine.{State, wrong, on, within, of_function}
-use Rattle.module_grammar.specs.inside.ModuleMachine.{of_annotation, the_module, a_parameter}
-use Rattle.module_grammar.specs.inside.ModuleMachine.{a_function, an_annotation, a_variant, a_struct}
-use Rattle.module_grammar.specs.inside.ModuleMachine.{a_field, an_enum, an_enum_value, of_declaration}
-use Rattle.module_grammar.specs.inside.ModuleMachine.{of_parameter, of_field, struct_kin, enum_kin}
-use Rattle.module_grammar.specs.inside.ModuleMachine.{annotation_kin, plain_parameter, parameter_from}
-use Rattle.module_grammar.specs.inside.ModuleMachine.{enum_value_from, no_frequency, is_star}
+use Rattle.module_grammar.specs.inside.ModuleStates.{Begun, Named, Fronted, Front, Owner, Struct}
+use Rattle.module_grammar.specs.inside.ModuleStates.{Position, Enum, Holder, Fronting, Kin, Naming}
+use Rattle.module_grammar.specs.inside.ModuleStates.{State, wrong, on, within, of_function}
+use Rattle.module_grammar.specs.inside.ModuleStates.{of_annotation, the_module, a_parameter}
+use Rattle.module_grammar.specs.inside.ModuleStates.{a_function, an_annotation, a_variant, a_struct}
+use Rattle.module_grammar.specs.inside.ModuleStates.{a_field, an_enum, an_enum_value, of_declaration}
+use Rattle.module_grammar.specs.inside.ModuleStates.{of_parameter, of_field, struct_kin, enum_kin}
+use Rattle.module_grammar.specs.inside.ModuleStates.{annotation_kin, plain_parameter, parameter_from}
+use Rattle.module_grammar.specs.inside.ModuleMachine.{no_frequency}
+use Rattle.module_grammar.specs.inside.ModuleStates.{enum_value_from, is_star}
 use Rattle.module_grammar.specs.inside.ModuleMachine.{front_outcome, first_front_step}
 use Rattle.module_grammar.specs.inside.ModuleMachine.{declaration_step, item_step, exported_step}
 use Rattle.module_grammar.specs.inside.ModuleMachine.{kin_step, annotation_named_step, declared_step}
@@ -43,22 +44,25 @@ use Rattle.module_grammar.specs.inside.ModuleMachine.{value_wanted_step, value_e
 use Rattle.module_grammar.specs.inside.ModuleMachine.{number_step, number_read_step, enum_closed_step}
 use Rattle.module_grammar.specs.inside.ModuleMachine.{second_bracket, own_step, annotation_read_step}
 use Rattle.module_grammar.specs.inside.ModuleMachine.{closing_annotations, own_ends, annotated_step}
-use Rattle.module_grammar.specs.inside.ModuleMachine.{item_wanted, importing, imported, using}
-use Rattle.module_grammar.specs.inside.ModuleMachine.{used_wanted, used_read, used_next, used_all}
-use Rattle.module_grammar.specs.inside.ModuleMachine.{own_wanted, annotations_begun, annotation_read}
-use Rattle.module_grammar.specs.inside.ModuleMachine.{annotations_closing, annotated, exported_read}
-use Rattle.module_grammar.specs.inside.ModuleMachine.{kin_named, annotation_named, fronting, declared}
-use Rattle.module_grammar.specs.inside.ModuleMachine.{parameters_begun, star_read, variant_read}
-use Rattle.module_grammar.specs.inside.ModuleMachine.{base_read, parameter_read, parameter_next}
-use Rattle.module_grammar.specs.inside.ModuleMachine.{function_read, annotation_declared, struct_named}
-use Rattle.module_grammar.specs.inside.ModuleMachine.{fields_read, field_read, enum_named}
-use Rattle.module_grammar.specs.inside.ModuleMachine.{value_wanted, value_read, number_wanted}
-use Rattle.module_grammar.specs.inside.ModuleMachine.{number_read, struct_closed, enum_closed, unnamed}
-use Rattle.module_grammar.specs.inside.ModuleMachine.{parted, open_ended, naming_or, naming_step}
+use Rattle.module_grammar.specs.inside.ModuleStates.{item_wanted, importing, imported, using}
+use Rattle.module_grammar.specs.inside.ModuleStates.{used_wanted, used_read, used_next, used_all}
+use Rattle.module_grammar.specs.inside.ModuleStates.{own_wanted, annotations_begun, annotation_read}
+use Rattle.module_grammar.specs.inside.ModuleStates.{annotations_closing, annotated, exported_read}
+use Rattle.module_grammar.specs.inside.ModuleStates.{kin_named, annotation_named, fronting, declared}
+use Rattle.module_grammar.specs.inside.ModuleStates.{parameters_begun, star_read, variant_read}
+use Rattle.module_grammar.specs.inside.ModuleStates.{base_read, parameter_read, parameter_next}
+use Rattle.module_grammar.specs.inside.ModuleStates.{function_read, annotation_declared, struct_named}
+use Rattle.module_grammar.specs.inside.ModuleStates.{fields_read, field_read, enum_named}
+use Rattle.module_grammar.specs.inside.ModuleStates.{value_wanted, value_read, number_wanted}
+use Rattle.module_grammar.specs.inside.ModuleStates.{number_read, struct_closed, enum_closed, unnamed}
+use Rattle.module_grammar.specs.inside.ModuleMachine.{naming_or}
+use Rattle.module_grammar.specs.inside.ModuleStates.{parted, open_ended, naming_step}
 use Rattle.module_grammar.specs.inside.ModuleMachine.{import_ends, import_item, import_step, all_of}
 use Rattle.module_grammar.specs.inside.ModuleMachine.{using_step, used_wanted_step, used_read_step}
-use Rattle.module_grammar.specs.inside.ModuleMachine.{used_next_step, used_all_step, qualified_from}
-use Rattle.module_grammar.specs.inside.ModuleMachine.{parameters_state, place_of_declaration}
+use Rattle.module_grammar.specs.inside.ModuleMachine.{used_next_step, used_all_step}
+use Rattle.module_grammar.specs.inside.ModuleStates.{qualified_from}
+use Rattle.module_grammar.specs.inside.ModuleMachine.{parameters_state}
+use Rattle.module_grammar.specs.inside.ModuleStates.{place_of_declaration}
 use Rattle.module_grammar.specs.inside.ModuleHeads.{IsHead, size_in, deferred_of, fronted_of_owner}
 use Rattle.module_grammar.proofs.ModuleHeadKinds.{InAnnotation, AnnotationOwner, Change, Changes}
 use Rattle.module_grammar.proofs.ModuleHeadKinds.{stays_so, ends_there, defers_first, head_ended}

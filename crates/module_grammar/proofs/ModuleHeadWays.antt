@@ -5,10 +5,12 @@ use Rattle.std.proofs.lemmas.List.{append_assoc, append-nil}
 use Rattle.mdl_lexer.specs.declared.token.Token.{Token}
 use Rattle.mdl_syntax.specs.declared.modules.VersionLit.{VersionLit}
 use Rattle.mdl_syntax.specs.AcceptedModules.{is_version}
-use Rattle.module_grammar.specs.inside.ModuleMachine.{State, Outcome, Verdict, on, waits, wrong}
-use Rattle.module_grammar.specs.inside.ModuleMachine.{too_deep, leaves_out, statement_body}
-use Rattle.module_grammar.specs.inside.ModuleMachine.{other_version, mdl_wanted, version_wanted}
-use Rattle.module_grammar.specs.inside.ModuleMachine.{version_read, within, passes, refused_here}
+use Rattle.module_grammar.specs.inside.ModuleMachine.{Verdict}
+use Rattle.module_grammar.specs.inside.ModuleStates.{State, Outcome, on, waits, wrong}
+use Rattle.module_grammar.specs.inside.ModuleStates.{too_deep, leaves_out, statement_body}
+use Rattle.module_grammar.specs.inside.ModuleStates.{other_version, mdl_wanted, version_wanted}
+use Rattle.module_grammar.specs.inside.ModuleMachine.{passes, refused_here}
+use Rattle.module_grammar.specs.inside.ModuleStates.{version_read, within}
 use Rattle.module_grammar.specs.inside.ModuleMachine.{refused_before, undecided, verdict_in, judged}
 use Rattle.module_grammar.specs.inside.ModuleMachine.{permitted_state, permitted, module_step}
 use Rattle.module_grammar.specs.inside.ModuleMachine.{module_taken}

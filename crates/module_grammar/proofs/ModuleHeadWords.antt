@@ -14,9 +14,11 @@ use Rattle.mdl_syntax.specs.AcceptedModules.{module_height}
 use Rattle.module_grammar.specs.ModuleFaults.{EndsHead, IsPrototype}
 use Rattle.expression_grammar.specs.Readings.{kinds}
 use Rattle.expression_grammar.specs.inside.Machine.{from_to, semicolon}
-use Rattle.module_grammar.specs.inside.ModuleMachine.{Begun, Position, State, ModuleRun, module_read}
-use Rattle.module_grammar.specs.inside.ModuleMachine.{module_end, mdl_wanted, within, item_wanted, on}
-use Rattle.module_grammar.specs.inside.ModuleMachine.{annotated, the_module, with_declaration}
+use Rattle.module_grammar.specs.inside.ModuleMachine.{ModuleRun, module_read}
+use Rattle.module_grammar.specs.inside.ModuleStates.{Begun, Position, State}
+use Rattle.module_grammar.specs.inside.ModuleMachine.{module_end}
+use Rattle.module_grammar.specs.inside.ModuleStates.{mdl_wanted, within, item_wanted, on}
+use Rattle.module_grammar.specs.inside.ModuleStates.{annotated, the_module, with_declaration}
 use Rattle.module_grammar.specs.inside.ModuleMachine.{module_step, module_taken, position_step}
 use Rattle.module_grammar.specs.inside.ModuleLeads.{ModuleLeads, ModuleEnds}
 use Rattle.module_grammar.specs.inside.ModuleHeads.{IsHead}

@@ -15,13 +15,14 @@ use Rattle.expression_grammar.specs.inside.Machine.{first_argument, argument_wan
 use Rattle.expression_grammar.specs.inside.Machine.{equals_wanted, in_wanted, in_expression, in_type}
 use Rattle.expression_grammar.specs.inside.Machine.{in_arguments, in_elements, in_let, from_to}
 use Rattle.expression_grammar.specs.inside.Machine.{opening_bracket}
-use Rattle.module_grammar.specs.inside.ModuleMachine.{State, Outcome, Begun, Site, Holder, Fronting}
-use Rattle.module_grammar.specs.inside.ModuleMachine.{Position, Naming, on, wrong, within, item_wanted}
-use Rattle.module_grammar.specs.inside.ModuleMachine.{importing, using, used_wanted, first_annotation}
-use Rattle.module_grammar.specs.inside.ModuleMachine.{annotated, exported_read, function_read}
-use Rattle.module_grammar.specs.inside.ModuleMachine.{fronting, expression, opened, unnamed, parted}
-use Rattle.module_grammar.specs.inside.ModuleMachine.{in_function_body, in_default, in_field_default}
-use Rattle.module_grammar.specs.inside.ModuleMachine.{in_annotation, the_module, import_step}
+use Rattle.module_grammar.specs.inside.ModuleStates.{State, Outcome, Begun, Site, Holder, Fronting}
+use Rattle.module_grammar.specs.inside.ModuleStates.{Position, Naming, on, wrong, within, item_wanted}
+use Rattle.module_grammar.specs.inside.ModuleStates.{importing, using, used_wanted, first_annotation}
+use Rattle.module_grammar.specs.inside.ModuleStates.{annotated, exported_read, function_read}
+use Rattle.module_grammar.specs.inside.ModuleStates.{fronting, expression, opened, unnamed, parted}
+use Rattle.module_grammar.specs.inside.ModuleStates.{in_function_body, in_default, in_field_default}
+use Rattle.module_grammar.specs.inside.ModuleMachine.{import_step}
+use Rattle.module_grammar.specs.inside.ModuleStates.{in_annotation, the_module}
 use Rattle.module_grammar.specs.inside.ModuleMachine.{using_step, annotated_step, front_outcome}
 use Rattle.module_grammar.specs.inside.ModuleMachine.{call_outcome, expression_outcome, call_step}
 use Rattle.module_grammar.specs.inside.ModuleMachine.{value_step_of, expression_step, index_outcome}

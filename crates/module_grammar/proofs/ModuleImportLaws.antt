@@ -21,12 +21,13 @@ use Rattle.expression_grammar.specs.inside.Machine.{semicolon, from_to}
 use Rattle.expression_grammar.specs.inside.Sorts.{IsOf}
 use Rattle.expression_grammar.specs.inside.Sound.{place}
 use Rattle.module_grammar.specs.inside.ModuleParts.{Part}
-use Rattle.module_grammar.specs.inside.ModuleMachine.{Begun, Naming, unnamed, parted, open_ended}
-use Rattle.module_grammar.specs.inside.ModuleMachine.{importing, imported}
-use Rattle.module_grammar.specs.inside.ModuleMachine.{within}
+use Rattle.module_grammar.specs.inside.ModuleStates.{Begun, Naming, unnamed, parted, open_ended}
+use Rattle.module_grammar.specs.inside.ModuleStates.{importing, imported}
+use Rattle.module_grammar.specs.inside.ModuleStates.{within}
 use Rattle.module_grammar.specs.inside.ModuleMachine.{import_ends, import_item, import_step, all_of}
-use Rattle.module_grammar.specs.inside.ModuleMachine.{naming_or, naming_step, with_import}
-use Rattle.module_grammar.specs.inside.ModuleMachine.{qualified_from, module_name, on}
+use Rattle.module_grammar.specs.inside.ModuleMachine.{naming_or}
+use Rattle.module_grammar.specs.inside.ModuleStates.{naming_step, with_import}
+use Rattle.module_grammar.specs.inside.ModuleStates.{qualified_from, module_name, on}
 use Rattle.module_grammar.specs.inside.ModuleHolds.{PositionHolds, BegunStands, Early, Open}
 use Rattle.module_grammar.specs.inside.ModuleHolds.{AtLeastOne}
 use Rattle.module_grammar.specs.inside.ModuleHolds.{Then, Behind, ImportBegun, ItemsStand}

@@ -16,10 +16,10 @@ use Rattle.mdl_syntax.specs.WrittenModules.{write_import, write_declaration, wri
 use Rattle.mdl_syntax.specs.PlacedModules.{placed_import, placed_declaration, placed_own}
 use Rattle.expression_grammar.specs.Readings.{kinds}
 use Rattle.module_grammar.specs.inside.ModuleParts.{Part, Several}
-use Rattle.module_grammar.specs.inside.ModuleMachine.{Outcome, on, wrong}
-use Rattle.module_grammar.specs.inside.ModuleMachine.{Begun, Position}
-use Rattle.module_grammar.specs.inside.ModuleMachine.{within, is_star, with_import, with_declaration}
-use Rattle.module_grammar.specs.inside.ModuleMachine.{item_wanted}
+use Rattle.module_grammar.specs.inside.ModuleStates.{Outcome, on, wrong}
+use Rattle.module_grammar.specs.inside.ModuleStates.{Begun, Position}
+use Rattle.module_grammar.specs.inside.ModuleStates.{within, is_star, with_import, with_declaration}
+use Rattle.module_grammar.specs.inside.ModuleStates.{item_wanted}
 use Rattle.module_grammar.specs.inside.ModuleHolds.{ModuleHolds, PositionHolds, WithinHolds, EarlyAt}
 use Rattle.module_grammar.specs.inside.ModuleHolds.{BegunStands, Early, Open, AtLeastOne, Behind, Then}
 use Rattle.expression_grammar.proofs.KindLaws.{last_end_append, not_empty_append}

@@ -5,11 +5,14 @@ use Rattle.std.proofs.lemmas.List.{append_assoc, append-nil}
 use Rattle.mdl_lexer.specs.declared.token.Token.{Token}
 use Rattle.mdl_syntax.specs.declared.modules.VersionLit.{VersionLit}
 use Rattle.mdl_syntax.specs.AcceptedModules.{is_version}
-use Rattle.module_grammar.specs.inside.ModuleMachine.{State, Outcome, Verdict, on, mdl_wanted}
-use Rattle.module_grammar.specs.inside.ModuleMachine.{version_wanted, version_read, within, passes}
+use Rattle.module_grammar.specs.inside.ModuleMachine.{Verdict}
+use Rattle.module_grammar.specs.inside.ModuleStates.{State, Outcome, on, mdl_wanted}
+use Rattle.module_grammar.specs.inside.ModuleMachine.{passes}
+use Rattle.module_grammar.specs.inside.ModuleStates.{version_wanted, version_read, within}
 use Rattle.module_grammar.specs.inside.ModuleMachine.{refused_here, refused_before, undecided}
 use Rattle.module_grammar.specs.inside.ModuleMachine.{verdict_in, judged, permitted_state, permitted}
-use Rattle.module_grammar.specs.inside.ModuleMachine.{module_step, module_taken, other_version}
+use Rattle.module_grammar.specs.inside.ModuleMachine.{module_step, module_taken}
+use Rattle.module_grammar.specs.inside.ModuleStates.{other_version}
 use Rattle.module_grammar.specs.inside.ModuleLeads.{ModuleLeads, here, next}
 use Rattle.module_grammar.specs.inside.ModuleHolds.{ModuleHolds}
 use Rattle.module_grammar.proofs.ModuleSoundStep.{module_sound_step}

@@ -2,7 +2,8 @@
 use Rattle.std.proofs.Common.{◌≡◌, ◌∙◌, sym, ap, subst, refl, arith, ℕ, suc, ◌+◌, ◌≤◌, Bool, false}
 use Rattle.std.proofs.Common.{List, [], ◌∷◌, ◌++◌, length}
 use Rattle.mdl_lexer.specs.declared.token.Token.{Token}
-use Rattle.module_grammar.specs.inside.ModuleMachine.{State, Outcome, on, module_taken}
+use Rattle.module_grammar.specs.inside.ModuleMachine.{module_taken}
+use Rattle.module_grammar.specs.inside.ModuleStates.{State, Outcome, on}
 use Rattle.module_grammar.specs.inside.ModuleLeads.{ModuleLeads, here, next}
 use Rattle.module_grammar.proofs.ModuleTakenLaws.{taken_on, taken_more}
 

@@ -19,9 +19,10 @@ use Rattle.expression_grammar.specs.inside.Sound.{place}
 use Rattle.expression_grammar.specs.inside.Machine.{Sort, sort_of, sort_step, from_to, is_left_out}
 use Rattle.expression_grammar.specs.inside.Machine.{left_out, identifier, other_literal, equals}
 use Rattle.expression_grammar.specs.inside.Machine.{using_word, wanted, Step, ident_at}
-use Rattle.module_grammar.specs.inside.ModuleMachine.{State, Outcome, on, leaves_out, mdl_wanted}
-use Rattle.module_grammar.specs.inside.ModuleMachine.{within, importing, using, used_wanted, unnamed}
-use Rattle.module_grammar.specs.inside.ModuleMachine.{exported_read, module_step, module_sort_step}
+use Rattle.module_grammar.specs.inside.ModuleStates.{State, Outcome, on, leaves_out, mdl_wanted}
+use Rattle.module_grammar.specs.inside.ModuleStates.{within, importing, using, used_wanted, unnamed}
+use Rattle.module_grammar.specs.inside.ModuleMachine.{module_step, module_sort_step}
+use Rattle.module_grammar.specs.inside.ModuleStates.{exported_read}
 use Rattle.module_grammar.specs.inside.ModuleLeads.{ModuleLeads}
 use Rattle.module_grammar.specs.inside.ModuleHolds.{ModuleHolds, Then, At, Nothing, Parted, PartsStand}
 use Rattle.module_grammar.specs.inside.ModuleHolds.{one_part, next_part, UsingBegun, UsedBegun}

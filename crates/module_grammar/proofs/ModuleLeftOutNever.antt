@@ -6,7 +6,7 @@ use Rattle.mdl_syntax.specs.WrittenModules.{write_module}
 use Rattle.expression_grammar.specs.Languages.{OpensIn}
 use Rattle.module_grammar.specs.ModuleFaults.{WritesModule}
 use Rattle.expression_grammar.specs.Readings.{kinds}
-use Rattle.module_grammar.specs.inside.ModuleMachine.{State, mdl_wanted}
+use Rattle.module_grammar.specs.inside.ModuleStates.{State, mdl_wanted}
 use Rattle.module_grammar.specs.inside.ModuleLeads.{ModuleLeads}
 use Rattle.module_grammar.specs.inside.ModuleForms.{LeftOutBy}
 use Rattle.expression_grammar.proofs.KindLaws.{kinds_append}

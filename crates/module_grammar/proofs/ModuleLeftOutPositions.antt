@@ -5,30 +5,32 @@ use Rattle.mdl_syntax.specs.declared.names.Span.{Span}
 use Rattle.mdl_syntax.specs.declared.expressions.Lit.TheVariants as lit
 use Rattle.mdl_syntax.specs.declared.modules.VersionLit.{VersionLit}
 use Rattle.mdl_syntax.specs.Trees.{Tree}
-use Rattle.module_grammar.specs.inside.ModuleMachine.{plain_parameter, is_call_site, may_name}
+use Rattle.module_grammar.specs.inside.ModuleMachine.{is_call_site, may_name}
+use Rattle.module_grammar.specs.inside.ModuleStates.{plain_parameter}
 use Rattle.module_grammar.specs.inside.ModuleMachine.{call_outcome, expression_outcome, call_step}
 use Rattle.module_grammar.specs.inside.ModuleMachine.{closes, closed_by, is_bracket, by_finish}
 use Rattle.module_grammar.specs.inside.ModuleMachine.{value_step_of, expression_step}
 use Rattle.module_grammar.specs.inside.ModuleMachine.{annotations_behind, unless_wrong, index_outcome}
 use Rattle.module_grammar.specs.inside.ModuleMachine.{opened_step, first_annotation_step}
 use Rattle.module_grammar.specs.inside.ModuleMachine.{position_step, version_step, version_ends}
-use Rattle.module_grammar.specs.inside.ModuleMachine.{state_step, module_sort_step, Begun, Holder}
-use Rattle.module_grammar.specs.inside.ModuleMachine.{Site, Position, State, Outcome, in_function_body}
-use Rattle.module_grammar.specs.inside.ModuleMachine.{in_default, in_field_default, in_annotation}
-use Rattle.module_grammar.specs.inside.ModuleMachine.{in_base, of_parameter, item_wanted, importing}
-use Rattle.module_grammar.specs.inside.ModuleMachine.{imported, using, used_wanted, used_read}
-use Rattle.module_grammar.specs.inside.ModuleMachine.{used_next, used_all, own_wanted}
-use Rattle.module_grammar.specs.inside.ModuleMachine.{annotations_begun, first_annotation}
-use Rattle.module_grammar.specs.inside.ModuleMachine.{annotation_read, annotations_closing, annotated}
-use Rattle.module_grammar.specs.inside.ModuleMachine.{exported_read, kin_named, annotation_named}
-use Rattle.module_grammar.specs.inside.ModuleMachine.{fronting, declared, parameters_begun, star_read}
-use Rattle.module_grammar.specs.inside.ModuleMachine.{variant_read, base_read, parameter_read}
-use Rattle.module_grammar.specs.inside.ModuleMachine.{parameter_next, function_read}
-use Rattle.module_grammar.specs.inside.ModuleMachine.{annotation_declared, struct_named, fields_read}
-use Rattle.module_grammar.specs.inside.ModuleMachine.{field_read, enum_named, value_wanted, value_read}
-use Rattle.module_grammar.specs.inside.ModuleMachine.{number_wanted, number_read, struct_closed}
-use Rattle.module_grammar.specs.inside.ModuleMachine.{enum_closed, expression, opened, mdl_wanted}
-use Rattle.module_grammar.specs.inside.ModuleMachine.{version_wanted, version_read, within, on, wrong}
+use Rattle.module_grammar.specs.inside.ModuleMachine.{state_step, module_sort_step}
+use Rattle.module_grammar.specs.inside.ModuleStates.{Begun, Holder}
+use Rattle.module_grammar.specs.inside.ModuleStates.{Site, Position, State, Outcome, in_function_body}
+use Rattle.module_grammar.specs.inside.ModuleStates.{in_default, in_field_default, in_annotation}
+use Rattle.module_grammar.specs.inside.ModuleStates.{in_base, of_parameter, item_wanted, importing}
+use Rattle.module_grammar.specs.inside.ModuleStates.{imported, using, used_wanted, used_read}
+use Rattle.module_grammar.specs.inside.ModuleStates.{used_next, used_all, own_wanted}
+use Rattle.module_grammar.specs.inside.ModuleStates.{annotations_begun, first_annotation}
+use Rattle.module_grammar.specs.inside.ModuleStates.{annotation_read, annotations_closing, annotated}
+use Rattle.module_grammar.specs.inside.ModuleStates.{exported_read, kin_named, annotation_named}
+use Rattle.module_grammar.specs.inside.ModuleStates.{fronting, declared, parameters_begun, star_read}
+use Rattle.module_grammar.specs.inside.ModuleStates.{variant_read, base_read, parameter_read}
+use Rattle.module_grammar.specs.inside.ModuleStates.{parameter_next, function_read}
+use Rattle.module_grammar.specs.inside.ModuleStates.{annotation_declared, struct_named, fields_read}
+use Rattle.module_grammar.specs.inside.ModuleStates.{field_read, enum_named, value_wanted, value_read}
+use Rattle.module_grammar.specs.inside.ModuleStates.{number_wanted, number_read, struct_closed}
+use Rattle.module_grammar.specs.inside.ModuleStates.{enum_closed, expression, opened, mdl_wanted}
+use Rattle.module_grammar.specs.inside.ModuleStates.{version_wanted, version_read, within, on, wrong}
 use Rattle.expression_grammar.specs.inside.Machine.{head_step, mode_step, finish, Sort, Frame, Mode, Step}
 use Rattle.expression_grammar.specs.inside.Machine.{Finish, other_literal, opening_bracket}
 use Rattle.expression_grammar.specs.inside.Machine.{closing_bracket, semicolon, mdl_word, left_out, wanted}

@@ -9,8 +9,8 @@ use Rattle.mdl_syntax.specs.declared.imports.Lead.TheVariants as lead_form
 use Rattle.mdl_syntax.specs.declared.imports.ModuleRef.{ModuleRef}
 use Rattle.mdl_syntax.specs.declared.imports.Qualified.{Qualified}
 use Rattle.mdl_syntax.specs.Modules.{Annotation, Parameter, EnumValue}
-use Rattle.module_grammar.specs.inside.ModuleMachine.{is_star, parameter_from, plain_parameter}
-use Rattle.module_grammar.specs.inside.ModuleMachine.{enum_value_from, qualified_from, naming_step}
+use Rattle.module_grammar.specs.inside.ModuleStates.{is_star, parameter_from, plain_parameter}
+use Rattle.module_grammar.specs.inside.ModuleStates.{enum_value_from, qualified_from, naming_step}
 use Rattle.module_grammar.specs.inside.ModuleMachine.{naming_or, import_ends, import_item, all_of}
 use Rattle.module_grammar.specs.inside.ModuleMachine.{import_step, using_step, used_wanted_step}
 use Rattle.module_grammar.specs.inside.ModuleMachine.{used_read_step, used_next_step, used_all_step}
@@ -29,16 +29,16 @@ use Rattle.module_grammar.specs.inside.ModuleMachine.{value_wanted_step, value_e
 use Rattle.module_grammar.specs.inside.ModuleMachine.{number_step, number_read_step, enum_closed_step}
 use Rattle.module_grammar.specs.inside.ModuleMachine.{second_bracket, own_step, annotation_read_step}
 use Rattle.module_grammar.specs.inside.ModuleMachine.{closing_annotations, own_ends, annotated_step}
-use Rattle.module_grammar.specs.inside.ModuleMachine.{Naming, Begun, Named, Fronted, Front, Owner}
-use Rattle.module_grammar.specs.inside.ModuleMachine.{Struct, Enum, Holder, Fronting, Kin, State}
-use Rattle.module_grammar.specs.inside.ModuleMachine.{Outcome, unnamed, parted, open_ended}
-use Rattle.module_grammar.specs.inside.ModuleMachine.{of_function, of_annotation, the_module}
-use Rattle.module_grammar.specs.inside.ModuleMachine.{a_parameter, a_function, an_annotation}
-use Rattle.module_grammar.specs.inside.ModuleMachine.{a_variant, a_struct, a_field, an_enum}
-use Rattle.module_grammar.specs.inside.ModuleMachine.{an_enum_value, of_declaration, of_parameter}
-use Rattle.module_grammar.specs.inside.ModuleMachine.{of_field, importing, imported, using, used_all}
-use Rattle.module_grammar.specs.inside.ModuleMachine.{within, on, wrong, used_wanted, exported_read}
-use Rattle.module_grammar.specs.inside.ModuleMachine.{leaves_out}
+use Rattle.module_grammar.specs.inside.ModuleStates.{Naming, Begun, Named, Fronted, Front, Owner}
+use Rattle.module_grammar.specs.inside.ModuleStates.{Struct, Enum, Holder, Fronting, Kin, State}
+use Rattle.module_grammar.specs.inside.ModuleStates.{Outcome, unnamed, parted, open_ended}
+use Rattle.module_grammar.specs.inside.ModuleStates.{of_function, of_annotation, the_module}
+use Rattle.module_grammar.specs.inside.ModuleStates.{a_parameter, a_function, an_annotation}
+use Rattle.module_grammar.specs.inside.ModuleStates.{a_variant, a_struct, a_field, an_enum}
+use Rattle.module_grammar.specs.inside.ModuleStates.{an_enum_value, of_declaration, of_parameter}
+use Rattle.module_grammar.specs.inside.ModuleStates.{of_field, importing, imported, using, used_all}
+use Rattle.module_grammar.specs.inside.ModuleStates.{within, on, wrong, used_wanted, exported_read}
+use Rattle.module_grammar.specs.inside.ModuleStates.{leaves_out}
 use Rattle.expression_grammar.specs.inside.Machine.{type_step, head_step, Sort, Head, Frame, Mode, Step}
 use Rattle.expression_grammar.specs.inside.Machine.{identifier, integer, other_literal, binary_operator}
 use Rattle.expression_grammar.specs.inside.Machine.{opening, closing, opening_bracket, closing_bracket}

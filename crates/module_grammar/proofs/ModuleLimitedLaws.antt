@@ -9,9 +9,10 @@ use Rattle.expression_grammar.specs.inside.Machine.{Sort, Mode, Frame, Step, Fin
 use Rattle.expression_grammar.specs.inside.Machine.{is_left_out, finished, ends_badly, ends_deep}
 use Rattle.expression_grammar.specs.inside.Machine.{mode_step, finish, opening_bracket, comma, closing}
 use Rattle.expression_grammar.specs.inside.Machine.{semicolon}
-use Rattle.module_grammar.specs.inside.ModuleMachine.{Begun, Site, Position, State, Outcome, on}
-use Rattle.module_grammar.specs.inside.ModuleMachine.{too_deep, within, in_function_body, in_default}
-use Rattle.module_grammar.specs.inside.ModuleMachine.{in_field_default, expression_outcome, closes}
+use Rattle.module_grammar.specs.inside.ModuleStates.{Begun, Site, Position, State, Outcome, on}
+use Rattle.module_grammar.specs.inside.ModuleStates.{too_deep, within, in_function_body, in_default}
+use Rattle.module_grammar.specs.inside.ModuleMachine.{expression_outcome, closes}
+use Rattle.module_grammar.specs.inside.ModuleStates.{in_field_default}
 use Rattle.module_grammar.specs.inside.ModuleMachine.{closing_outcome, by_finish}
 use Rattle.expression_grammar.proofs.RoomLaws.{Limited, always, roomy, mode_limited, Ending, ends, high}
 use Rattle.expression_grammar.proofs.RoomLaws.{finish_ending}

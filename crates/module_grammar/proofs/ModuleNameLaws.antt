@@ -21,10 +21,10 @@ use Rattle.expression_grammar.specs.inside.Machine.{Sort, identifier, dot, doubl
 use Rattle.expression_grammar.specs.inside.Sorts.{IsOf}
 use Rattle.expression_grammar.specs.inside.Sound.{place}
 use Rattle.module_grammar.specs.inside.ModuleParts.{Part, First}
-use Rattle.module_grammar.specs.inside.ModuleMachine.{Naming, unnamed, one_dot, two_dots, up_steps}
-use Rattle.module_grammar.specs.inside.ModuleMachine.{one_dot_behind, led, parted, open_ended}
-use Rattle.module_grammar.specs.inside.ModuleMachine.{naming_step, module_name, split_last, part_end}
-use Rattle.module_grammar.specs.inside.ModuleMachine.{qualified_from}
+use Rattle.module_grammar.specs.inside.ModuleStates.{Naming, unnamed, one_dot, two_dots, up_steps}
+use Rattle.module_grammar.specs.inside.ModuleStates.{one_dot_behind, led, parted, open_ended}
+use Rattle.module_grammar.specs.inside.ModuleStates.{naming_step, module_name, split_last, part_end}
+use Rattle.module_grammar.specs.inside.ModuleStates.{qualified_from}
 use Rattle.module_grammar.specs.inside.ModuleHolds.{Words, NamingStands, Parted, PartsStand, one_part}
 use Rattle.module_grammar.specs.inside.ModuleHolds.{next_part, Behind, ModuleNamed, one_dot_words}
 use Rattle.module_grammar.specs.inside.ModuleHolds.{two_dot_words}

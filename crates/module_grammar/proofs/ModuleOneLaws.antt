@@ -18,8 +18,9 @@ use Rattle.module_grammar.specs.ModuleFaults.{other_version}
 use Rattle.module_grammar.specs.ModuleReadings.{IsModuleTree}
 use Rattle.expression_grammar.specs.Readings.{kinds}
 use Rattle.expression_grammar.specs.inside.Machine.{Sort, sort_of, opening_brace}
-use Rattle.module_grammar.specs.inside.ModuleMachine as machine
-use Rattle.module_grammar.specs.inside.ModuleMachine.{State, Outcome, on, mdl_wanted, module_step}
+use Rattle.module_grammar.specs.inside.ModuleStates as states
+use Rattle.module_grammar.specs.inside.ModuleMachine.{module_step}
+use Rattle.module_grammar.specs.inside.ModuleStates.{State, Outcome, on, mdl_wanted}
 use Rattle.module_grammar.specs.inside.ModuleLeads.{ModuleLeads, ModuleEnds}
 use Rattle.module_grammar.specs.inside.ModuleForms.{LeftOutBy, FormStands}
 use Rattle.expression_grammar.proofs.FaultLaws.{words_front, words_with, inside_length}
@@ -141,14 +142,14 @@ deep_size most some tokens at deeper none size =
             (subst (λ (n : ℕ). ModuleOpensTo (kinds (front ++ token ∷ more)) n most) long up)
 
         made_so : (state : State) → ModuleLeads false most 0 mdl_wanted front state →
-            (module_step most (length front) state token ≡ machine.too_deep → ⊥) →
+            (module_step most (length front) state token ≡ states.too_deep → ⊥) →
             (made : Outcome) → module_step most (length front) state token ≡ made → ⊥
         made_so state leads low (on after) is =
             deeper.high (back (inl (
               inside_length front more token,
               step_opens false most some front more token state after leads is,
             )))
-        made_so state leads low machine.too_deep is = low is
+        made_so state leads low states.too_deep is = low is
         made_so state leads low made is =
             stopped_none false most front more token state made leads is tt deeper.opens.0
             (stands deeper.opens.0 deeper.opens.1)
@@ -168,7 +169,7 @@ deep_size most some tokens at deeper none size =
             made_so state leads (λ high. size_never_deep false most own bracket token state
             (subst (λ (l : List Token). ModuleLeads false most 0 mdl_wanted l state) own_is leads)
             (record { is = bracket_is }) (record { is = kind_is })
-            (subst (λ (l : List Token). module_step most (length l) state token ≡ machine.too_deep)
+            (subst (λ (l : List Token). module_step most (length l) state token ≡ states.too_deep)
             own_is high)) (module_step most (length front) state token) refl
 
 abbrev Form : ℕ → List Token → ℕ → List ℕ → Type 0

@@ -13,7 +13,7 @@ use Rattle.expression_grammar.specs.Languages.{OpensIn}
 use Rattle.module_grammar.specs.ModuleFaults.{WritesModule, WritesAccepted, ModuleOpens}
 use Rattle.module_grammar.specs.ModuleReadings.{IsModuleTree}
 use Rattle.expression_grammar.specs.Readings.{kinds}
-use Rattle.module_grammar.specs.inside.ModuleMachine.{State, mdl_wanted}
+use Rattle.module_grammar.specs.inside.ModuleStates.{State, mdl_wanted}
 use Rattle.module_grammar.specs.inside.ModuleMachine.{ModuleRun, module_read}
 use Rattle.module_grammar.specs.inside.ModuleLeads.{ModuleLeads, ModuleEnds}
 use Rattle.expression_grammar.proofs.KindLaws.{kinds_append}

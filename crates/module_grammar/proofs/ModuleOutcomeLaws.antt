@@ -6,9 +6,9 @@ use Rattle.std.proofs.lemmas.Bool.{leb-true, leb-false}
 use Rattle.std.proofs.lemmas.List.{append_assoc, append-nil, length_push, take_all, take-append-le}
 use Rattle.mdl_lexer.specs.declared.token.Token.{Token}
 use Rattle.mdl_syntax.specs.Modules.{ModuleTree}
-use Rattle.module_grammar.specs.inside.ModuleMachine.{Begun, State, Outcome, on, waits, wrong}
-use Rattle.module_grammar.specs.inside.ModuleMachine.{too_deep, leaves_out, statement_body}
-use Rattle.module_grammar.specs.inside.ModuleMachine.{other_version, mdl_wanted, within, item_wanted}
+use Rattle.module_grammar.specs.inside.ModuleStates.{Begun, State, Outcome, on, waits, wrong}
+use Rattle.module_grammar.specs.inside.ModuleStates.{too_deep, leaves_out, statement_body}
+use Rattle.module_grammar.specs.inside.ModuleStates.{other_version, mdl_wanted, within, item_wanted}
 use Rattle.module_grammar.specs.inside.ModuleMachine.{module_taken, module_end, module_read}
 use Rattle.module_grammar.specs.inside.ModuleMachine.{whole_after, outcome_after, place_behind}
 use Rattle.module_grammar.specs.inside.ModuleMachine.{run_module_from}

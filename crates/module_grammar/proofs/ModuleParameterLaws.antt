@@ -14,21 +14,22 @@ use Rattle.expression_grammar.specs.inside.Machine.{semicolon, binary_operator, 
 use Rattle.expression_grammar.specs.inside.Machine.{opening_brace}
 use Rattle.expression_grammar.specs.inside.Sorts.{IsOf}
 use Rattle.expression_grammar.specs.inside.Sound.{place}
-use Rattle.module_grammar.specs.inside.ModuleMachine.{Begun, Named, Fronted, Front, Owner, of_function}
-use Rattle.module_grammar.specs.inside.ModuleMachine.{of_annotation, on, within}
-use Rattle.module_grammar.specs.inside.ModuleMachine.{parameter_next, parameters_begun, parameter_read}
-use Rattle.module_grammar.specs.inside.ModuleMachine.{function_read, annotation_declared, star_read}
-use Rattle.module_grammar.specs.inside.ModuleMachine.{variant_read, base_read, declared, expression}
-use Rattle.module_grammar.specs.inside.ModuleMachine.{in_default, in_base, in_function_body}
-use Rattle.module_grammar.specs.inside.ModuleMachine.{a_parameter}
-use Rattle.module_grammar.specs.inside.ModuleMachine.{a_variant, a_function, an_annotation}
+use Rattle.module_grammar.specs.inside.ModuleStates.{Begun, Named, Fronted, Front, Owner, of_function}
+use Rattle.module_grammar.specs.inside.ModuleStates.{of_annotation, on, within}
+use Rattle.module_grammar.specs.inside.ModuleStates.{parameter_next, parameters_begun, parameter_read}
+use Rattle.module_grammar.specs.inside.ModuleStates.{function_read, annotation_declared, star_read}
+use Rattle.module_grammar.specs.inside.ModuleStates.{variant_read, base_read, declared, expression}
+use Rattle.module_grammar.specs.inside.ModuleStates.{in_default, in_base, in_function_body}
+use Rattle.module_grammar.specs.inside.ModuleStates.{a_parameter}
+use Rattle.module_grammar.specs.inside.ModuleStates.{a_variant, a_function, an_annotation}
 use Rattle.module_grammar.specs.inside.ModuleMachine.{declared_step, parameters_step, parameter_ends}
 use Rattle.module_grammar.specs.inside.ModuleMachine.{parameter_step, star_step, star_read_step}
 use Rattle.module_grammar.specs.inside.ModuleMachine.{variant_step, variant_annotated, base_step}
 use Rattle.module_grammar.specs.inside.ModuleMachine.{variant_from, function_annotated, function_step}
 use Rattle.module_grammar.specs.inside.ModuleMachine.{annotation_annotated, annotation_declared_step}
-use Rattle.module_grammar.specs.inside.ModuleMachine.{prototype_from, function_from, plain_parameter}
-use Rattle.module_grammar.specs.inside.ModuleMachine.{place_of_declaration, parameters_state}
+use Rattle.module_grammar.specs.inside.ModuleStates.{prototype_from, function_from, plain_parameter}
+use Rattle.module_grammar.specs.inside.ModuleMachine.{parameters_state}
+use Rattle.module_grammar.specs.inside.ModuleStates.{place_of_declaration}
 use Rattle.module_grammar.specs.inside.ModuleHolds.{PositionHolds, BegunStands, Then, Behind}
 use Rattle.module_grammar.specs.inside.ModuleHolds.{AtLeastOne, OwnerStands, OwnedStands, Annotated}
 use Rattle.module_grammar.specs.inside.ModuleHolds.{ParameterStands, ParametersOpen}

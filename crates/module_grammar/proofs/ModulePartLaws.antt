@@ -24,8 +24,8 @@ use Rattle.expression_grammar.specs.inside.Machine.{ident_at, from_to}
 use Rattle.expression_grammar.specs.inside.Stands.{TypeStands}
 use Rattle.expression_grammar.specs.inside.Sound.{place}
 use Rattle.module_grammar.specs.inside.ModuleParts.{Part, First}
-use Rattle.module_grammar.specs.inside.ModuleMachine.{Front, parameter_from, plain_parameter}
-use Rattle.module_grammar.specs.inside.ModuleMachine.{default_end, enum_value_from}
+use Rattle.module_grammar.specs.inside.ModuleStates.{Front, parameter_from, plain_parameter}
+use Rattle.module_grammar.specs.inside.ModuleStates.{default_end, enum_value_from}
 use Rattle.module_grammar.specs.inside.ModuleHolds.{Word, Annotated, AnnotationsStand, ValueStands}
 use Rattle.module_grammar.specs.inside.ModuleHolds.{NumberStands, FrontStands, ParameterStands}
 use Rattle.module_grammar.specs.inside.ModuleHolds.{ParametersStand}

@@ -21,13 +21,16 @@ use Rattle.expression_grammar.specs.inside.Sound.{IsMark}
 use Rattle.expression_grammar.specs.inside.Machine.{sort_of, from_to, wanted}
 use Rattle.mdl_syntax.specs.declared.types.Freq.{Freq}
 use Rattle.mdl_syntax.specs.Modules.{Annotation, Parameter}
-use Rattle.module_grammar.specs.inside.ModuleMachine as machine
-use Rattle.module_grammar.specs.inside.ModuleMachine.{State, Outcome, on, mdl_wanted, within}
-use Rattle.module_grammar.specs.inside.ModuleMachine.{Begun, Fronted, version_read, judged}
+use Rattle.module_grammar.specs.inside.ModuleStates as states
+use Rattle.module_grammar.specs.inside.ModuleStates.{State, Outcome, on, mdl_wanted, within}
+use Rattle.module_grammar.specs.inside.ModuleMachine.{judged}
+use Rattle.module_grammar.specs.inside.ModuleStates.{Begun, Fronted, version_read}
 use Rattle.module_grammar.specs.inside.ModuleMachine.{before_body, module_sort_step}
-use Rattle.module_grammar.specs.inside.ModuleMachine.{version_wanted, module_step, module_taken}
-use Rattle.module_grammar.specs.inside.ModuleMachine.{fronting, expression, of_parameter, of_function}
-use Rattle.module_grammar.specs.inside.ModuleMachine.{of_annotation, in_function_body, permitted}
+use Rattle.module_grammar.specs.inside.ModuleMachine.{module_step, module_taken}
+use Rattle.module_grammar.specs.inside.ModuleStates.{version_wanted}
+use Rattle.module_grammar.specs.inside.ModuleStates.{fronting, expression, of_parameter, of_function}
+use Rattle.module_grammar.specs.inside.ModuleMachine.{permitted}
+use Rattle.module_grammar.specs.inside.ModuleStates.{of_annotation, in_function_body}
 use Rattle.module_grammar.specs.inside.ModuleLeads.{ModuleLeads, next, IsWholeAt, MayGoOn}
 use Rattle.module_grammar.specs.inside.ModuleHeads.{IsHead, size_in}
 use Rattle.module_grammar.specs.inside.ModuleForms.{FormStands}
@@ -192,7 +195,7 @@ version_refused most number at token text double kind_is none made =
       text = text;
       double = double;
       span = from_to token.at token.end;
-    })) else machine.other_version)) none
+    })) else states.other_version)) none
     (subst (λ (word : Kind). IsOnMade (permitted true (module_sort_step most number
     (version_wanted at) (sort_of word) (from_to token.at token.end)))) kind_is made)
 

@@ -11,17 +11,18 @@ use Rattle.expression_grammar.specs.inside.Machine.{is_left_out, wanted, complet
 use Rattle.expression_grammar.specs.inside.Machine.{ends_badly, ends_deep, mode_step, opening_bracket}
 use Rattle.expression_grammar.specs.inside.Machine.{closing_bracket, is_deferred}
 use Rattle.expression_grammar.specs.inside.Leads.{here}
-use Rattle.module_grammar.specs.inside.ModuleMachine.{Begun, Holder, Site, Outcome, on, wrong, within}
-use Rattle.module_grammar.specs.inside.ModuleMachine.{expression, opened, in_function_body, in_default}
-use Rattle.module_grammar.specs.inside.ModuleMachine.{in_field_default, in_annotation, in_base}
+use Rattle.module_grammar.specs.inside.ModuleStates.{Begun, Holder, Site, Outcome, on, wrong, within}
+use Rattle.module_grammar.specs.inside.ModuleStates.{expression, opened, in_function_body, in_default}
+use Rattle.module_grammar.specs.inside.ModuleStates.{in_field_default, in_annotation, in_base}
 use Rattle.module_grammar.specs.inside.ModuleMachine.{is_call_site, may_name, call_read, whole_call}
 use Rattle.module_grammar.specs.inside.ModuleMachine.{call_goes, call_outcome, expression_outcome}
 use Rattle.module_grammar.specs.inside.ModuleMachine.{call_step, closes, closed_by, is_bracket}
 use Rattle.module_grammar.specs.inside.ModuleMachine.{by_finish, value_step_of, room_of}
 use Rattle.module_grammar.specs.inside.ModuleMachine.{expression_step, holder_of, annotations_behind}
 use Rattle.module_grammar.specs.inside.ModuleMachine.{unless_wrong, index_outcome, opened_step}
-use Rattle.module_grammar.specs.inside.ModuleMachine.{first_annotation_step, function_from}
-use Rattle.module_grammar.specs.inside.ModuleMachine.{plain_parameter, default_end}
+use Rattle.module_grammar.specs.inside.ModuleMachine.{first_annotation_step}
+use Rattle.module_grammar.specs.inside.ModuleStates.{function_from}
+use Rattle.module_grammar.specs.inside.ModuleStates.{plain_parameter, default_end}
 use Rattle.module_grammar.specs.inside.ModulePlain.{AnnotationPlain, BegunPlain, HolderPlain}
 use Rattle.module_grammar.specs.inside.ModulePlain.{SitePlain, SitePassed, PositionPlain, ModulePlain}
 use Rattle.module_grammar.specs.inside.ModulePlain.{Led, Takes}

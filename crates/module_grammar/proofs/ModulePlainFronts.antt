@@ -17,12 +17,15 @@ use Rattle.expression_grammar.specs.inside.Machine.{part_read, word_read, type_w
 use Rattle.expression_grammar.specs.inside.Machine.{type_sized, deferred_wanted, name_wanted}
 use Rattle.expression_grammar.specs.inside.Machine.{equals_wanted, type_step, head_step, mode_step}
 use Rattle.expression_grammar.specs.inside.Machine.{type_name_step}
-use Rattle.module_grammar.specs.inside.ModuleMachine.{Begun, Named, Fronting, Outcome, on}
-use Rattle.module_grammar.specs.inside.ModuleMachine.{of_declaration, of_parameter, of_field}
-use Rattle.module_grammar.specs.inside.ModuleMachine.{of_function, of_annotation, named_state}
+use Rattle.module_grammar.specs.inside.ModuleStates.{Begun, Named, Fronting, Outcome, on}
+use Rattle.module_grammar.specs.inside.ModuleStates.{of_declaration, of_parameter, of_field}
+use Rattle.module_grammar.specs.inside.ModuleMachine.{named_state}
+use Rattle.module_grammar.specs.inside.ModuleStates.{of_function, of_annotation}
 use Rattle.module_grammar.specs.inside.ModuleMachine.{front_goes, front_outcome, deferred_state}
-use Rattle.module_grammar.specs.inside.ModuleMachine.{verdict_in, fronting, Verdict, if_deferred}
-use Rattle.module_grammar.specs.inside.ModuleMachine.{passes, refused_here, within}
+use Rattle.module_grammar.specs.inside.ModuleMachine.{verdict_in, Verdict, if_deferred}
+use Rattle.module_grammar.specs.inside.ModuleStates.{fronting}
+use Rattle.module_grammar.specs.inside.ModuleMachine.{passes, refused_here}
+use Rattle.module_grammar.specs.inside.ModuleStates.{within}
 use Rattle.module_grammar.specs.inside.ModulePlain.{TypePlain, ModePlain, ModulePlain, BegunPlain}
 use Rattle.module_grammar.specs.inside.ModulePlain.{SizePlain, FrontingPlain}
 

@@ -9,12 +9,14 @@ use Rattle.mdl_syntax.specs.declared.imports.Qualified.{Qualified}
 use Rattle.mdl_syntax.specs.declared.imports.Import.TheVariants as import_form
 use Rattle.expression_grammar.specs.inside.Machine.{Sort, identifier, other_literal, binary_operator}
 use Rattle.expression_grammar.specs.inside.Machine.{comma, semicolon, equals, import_word, from_to}
-use Rattle.module_grammar.specs.inside.ModuleMachine.{Begun, Naming, State, on, wrong, within, unnamed}
-use Rattle.module_grammar.specs.inside.ModuleMachine.{parted, open_ended, importing, imported, using}
-use Rattle.module_grammar.specs.inside.ModuleMachine.{used_all, naming_or, naming_step, import_ends}
+use Rattle.module_grammar.specs.inside.ModuleStates.{Begun, Naming, State, on, wrong, within, unnamed}
+use Rattle.module_grammar.specs.inside.ModuleStates.{parted, open_ended, importing, imported, using}
+use Rattle.module_grammar.specs.inside.ModuleMachine.{naming_or, import_ends}
+use Rattle.module_grammar.specs.inside.ModuleStates.{used_all, naming_step}
 use Rattle.module_grammar.specs.inside.ModuleMachine.{import_item, import_step, all_of, using_step}
 use Rattle.module_grammar.specs.inside.ModuleMachine.{used_wanted_step, used_read_step, used_next_step}
-use Rattle.module_grammar.specs.inside.ModuleMachine.{used_all_step, qualified_from, is_star}
+use Rattle.module_grammar.specs.inside.ModuleMachine.{used_all_step}
+use Rattle.module_grammar.specs.inside.ModuleStates.{qualified_from, is_star}
 use Rattle.module_grammar.specs.inside.ModulePlain.{ModulePlain, BegunPlain}
 use Rattle.module_grammar.proofs.ModulePlainFronts.{OutcomePlain}
 use Rattle.module_grammar.proofs.ModulePlainParts.{if_plain, import_plain}

@@ -9,10 +9,10 @@ use Rattle.mdl_syntax.specs.Levelled.{NoneDeferred}
 use Rattle.mdl_syntax.specs.Modules.{Annotation, Parameter, Declaration, material, function}
 use Rattle.mdl_syntax.specs.AcceptedModules.{PlainAnnotations, PlainValue, LooseParameter}
 use Rattle.mdl_syntax.specs.AcceptedModules.{PlainParameter, PlainDeclaration}
-use Rattle.module_grammar.specs.inside.ModuleMachine.{Begun, Fronted, Front, Owner, Outcome, on}
-use Rattle.module_grammar.specs.inside.ModuleMachine.{with_import, with_declaration, function_from}
-use Rattle.module_grammar.specs.inside.ModuleMachine.{prototype_from, is_material, parameter_from}
-use Rattle.module_grammar.specs.inside.ModuleMachine.{of_function, of_annotation, place_of_declaration}
+use Rattle.module_grammar.specs.inside.ModuleStates.{Begun, Fronted, Front, Owner, Outcome, on}
+use Rattle.module_grammar.specs.inside.ModuleStates.{with_import, with_declaration, function_from}
+use Rattle.module_grammar.specs.inside.ModuleStates.{prototype_from, is_material, parameter_from}
+use Rattle.module_grammar.specs.inside.ModuleStates.{of_function, of_annotation, place_of_declaration}
 use Rattle.module_grammar.specs.inside.ModulePlain.{BegunPlain, FrontedPlain, OwnedPlain, OwnedSize}
 use Rattle.module_grammar.proofs.ModuleFitsParts.{all_and_one}
 use Rattle.module_grammar.proofs.ModulePlainFronts.{OutcomePlain}

@@ -10,12 +10,14 @@ use Rattle.expression_grammar.specs.inside.Machine.{closing, opening_bracket, co
 use Rattle.expression_grammar.specs.inside.Machine.{frequency_word, import_word, using_word, module_word}
 use Rattle.expression_grammar.specs.inside.Machine.{export_word, struct_word, enum_word, annotation_word}
 use Rattle.expression_grammar.specs.inside.Machine.{head_step, type_step}
-use Rattle.module_grammar.specs.inside.ModuleMachine.{Begun, Named, Fronted, Front, Owner, Fronting}
-use Rattle.module_grammar.specs.inside.ModuleMachine.{Kin, wrong, of_function, of_annotation}
-use Rattle.module_grammar.specs.inside.ModuleMachine.{of_declaration, of_parameter, struct_kin}
-use Rattle.module_grammar.specs.inside.ModuleMachine.{enum_kin, annotation_kin, plain_parameter}
-use Rattle.module_grammar.specs.inside.ModuleMachine.{prototype_from, variant_from, no_frequency}
-use Rattle.module_grammar.specs.inside.ModuleMachine.{is_star, first_front_step, declaration_step}
+use Rattle.module_grammar.specs.inside.ModuleStates.{Begun, Named, Fronted, Front, Owner, Fronting}
+use Rattle.module_grammar.specs.inside.ModuleStates.{Kin, wrong, of_function, of_annotation}
+use Rattle.module_grammar.specs.inside.ModuleStates.{of_declaration, of_parameter, struct_kin}
+use Rattle.module_grammar.specs.inside.ModuleStates.{enum_kin, annotation_kin, plain_parameter}
+use Rattle.module_grammar.specs.inside.ModuleMachine.{variant_from, no_frequency}
+use Rattle.module_grammar.specs.inside.ModuleStates.{prototype_from}
+use Rattle.module_grammar.specs.inside.ModuleMachine.{first_front_step, declaration_step}
+use Rattle.module_grammar.specs.inside.ModuleStates.{is_star}
 use Rattle.module_grammar.specs.inside.ModuleMachine.{item_step, exported_step, kin_state, kin_step}
 use Rattle.module_grammar.specs.inside.ModuleMachine.{annotation_named_step, declared_step}
 use Rattle.module_grammar.specs.inside.ModuleMachine.{parameters_state, star_step, parameters_step}
@@ -23,7 +25,8 @@ use Rattle.module_grammar.specs.inside.ModuleMachine.{parameter_ends, parameter_
 use Rattle.module_grammar.specs.inside.ModuleMachine.{variant_annotated, variant_step, base_step}
 use Rattle.module_grammar.specs.inside.ModuleMachine.{function_annotated, function_step}
 use Rattle.module_grammar.specs.inside.ModuleMachine.{annotation_annotated, annotation_declared_step}
-use Rattle.module_grammar.specs.inside.ModuleMachine.{default_end, before_body, passes}
+use Rattle.module_grammar.specs.inside.ModuleMachine.{before_body, passes}
+use Rattle.module_grammar.specs.inside.ModuleStates.{default_end}
 use Rattle.mdl_syntax.specs.AcceptedModules.{PlainAnnotations, LooseParameter}
 use Rattle.expression_grammar.specs.inside.Leads.{here}
 use Rattle.module_grammar.specs.inside.ModulePlain.{AnnotationPlain, BegunPlain, FrontedPlain}

@@ -14,9 +14,11 @@ use Rattle.expression_grammar.specs.inside.Machine.{in_expression, finish, finis
 use Rattle.expression_grammar.specs.inside.Machine.{opening_bracket, is_deferred, allowed, taken, in_index}
 use Rattle.expression_grammar.specs.inside.Machine.{around, unless_bad, indexed_tree}
 use Rattle.expression_grammar.specs.inside.Leads.{Ends}
-use Rattle.module_grammar.specs.inside.ModuleMachine.{Site, expression, room_of, is_call_site}
-use Rattle.module_grammar.specs.inside.ModuleMachine.{verdict_in, passes, in_function_body, in_default}
-use Rattle.module_grammar.specs.inside.ModuleMachine.{in_field_default, in_annotation, in_base}
+use Rattle.module_grammar.specs.inside.ModuleMachine.{room_of, is_call_site}
+use Rattle.module_grammar.specs.inside.ModuleStates.{Site, expression}
+use Rattle.module_grammar.specs.inside.ModuleMachine.{verdict_in, passes}
+use Rattle.module_grammar.specs.inside.ModuleStates.{in_function_body, in_default}
+use Rattle.module_grammar.specs.inside.ModuleStates.{in_field_default, in_annotation, in_base}
 use Rattle.module_grammar.specs.inside.ModuleMachine.{Verdict, if_deferred, is_bracket}
 use Rattle.module_grammar.specs.inside.ModuleMachine.{behind_parameter, deferred_of_owner}
 use Rattle.module_grammar.specs.inside.ModuleMachine.{deferred_of_holder}

@@ -7,11 +7,11 @@ use Rattle.mdl_syntax.specs.Modules.{Annotation, Parameter, EnumValue}
 use Rattle.expression_grammar.specs.inside.Machine.{Sort, wanted, identifier, integer, opening_bracket}
 use Rattle.expression_grammar.specs.inside.Machine.{closing_bracket, opening_brace, closing_brace, comma}
 use Rattle.expression_grammar.specs.inside.Machine.{semicolon, equals}
-use Rattle.module_grammar.specs.inside.ModuleMachine.{Begun, Named, Front, Struct, Enum, Holder}
-use Rattle.module_grammar.specs.inside.ModuleMachine.{the_module, a_parameter, a_function}
-use Rattle.module_grammar.specs.inside.ModuleMachine.{an_annotation, a_variant, a_struct, a_field}
-use Rattle.module_grammar.specs.inside.ModuleMachine.{an_enum, an_enum_value, of_field}
-use Rattle.module_grammar.specs.inside.ModuleMachine.{plain_parameter, parameter_from, enum_value_from}
+use Rattle.module_grammar.specs.inside.ModuleStates.{Begun, Named, Front, Struct, Enum, Holder}
+use Rattle.module_grammar.specs.inside.ModuleStates.{the_module, a_parameter, a_function}
+use Rattle.module_grammar.specs.inside.ModuleStates.{an_annotation, a_variant, a_struct, a_field}
+use Rattle.module_grammar.specs.inside.ModuleStates.{an_enum, an_enum_value, of_field}
+use Rattle.module_grammar.specs.inside.ModuleStates.{plain_parameter, parameter_from, enum_value_from}
 use Rattle.module_grammar.specs.inside.ModuleMachine.{struct_annotated, struct_named_step, fields_step}
 use Rattle.module_grammar.specs.inside.ModuleMachine.{field_ends, field_step, struct_closed_step}
 use Rattle.module_grammar.specs.inside.ModuleMachine.{enum_annotated, enum_named_step}

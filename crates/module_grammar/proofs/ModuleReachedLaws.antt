@@ -9,15 +9,18 @@ use Rattle.mdl_syntax.specs.Modules.{Annotation, Parameter, ModuleTree}
 use Rattle.mdl_syntax.specs.AcceptedModules.{is_version}
 use Rattle.module_grammar.specs.inside.ModuleMachine.{module_step, before_body, behind_parameter}
 use Rattle.module_grammar.specs.inside.ModuleMachine.{deferred_of_site, judged, permitted_state}
-use Rattle.module_grammar.specs.inside.ModuleMachine.{permitted, module_taken, Begun, Fronted, Site}
-use Rattle.module_grammar.specs.inside.ModuleMachine.{Position, State, Outcome, Verdict}
-use Rattle.module_grammar.specs.inside.ModuleMachine.{in_function_body, in_default, in_field_default}
-use Rattle.module_grammar.specs.inside.ModuleMachine.{in_annotation, in_base, of_declaration}
-use Rattle.module_grammar.specs.inside.ModuleMachine.{of_parameter, of_field, fronting, expression}
-use Rattle.module_grammar.specs.inside.ModuleMachine.{opened, mdl_wanted, version_wanted}
-use Rattle.module_grammar.specs.inside.ModuleMachine.{version_read, within, on, waits, wrong}
-use Rattle.module_grammar.specs.inside.ModuleMachine.{too_deep, leaves_out, statement_body}
-use Rattle.module_grammar.specs.inside.ModuleMachine.{other_version, passes, refused_here}
+use Rattle.module_grammar.specs.inside.ModuleMachine.{permitted, module_taken}
+use Rattle.module_grammar.specs.inside.ModuleStates.{Begun, Fronted, Site}
+use Rattle.module_grammar.specs.inside.ModuleMachine.{Verdict}
+use Rattle.module_grammar.specs.inside.ModuleStates.{Position, State, Outcome}
+use Rattle.module_grammar.specs.inside.ModuleStates.{in_function_body, in_default, in_field_default}
+use Rattle.module_grammar.specs.inside.ModuleStates.{in_annotation, in_base, of_declaration}
+use Rattle.module_grammar.specs.inside.ModuleStates.{of_parameter, of_field, fronting, expression}
+use Rattle.module_grammar.specs.inside.ModuleStates.{opened, mdl_wanted, version_wanted}
+use Rattle.module_grammar.specs.inside.ModuleStates.{version_read, within, on, waits, wrong}
+use Rattle.module_grammar.specs.inside.ModuleStates.{too_deep, leaves_out, statement_body}
+use Rattle.module_grammar.specs.inside.ModuleMachine.{passes, refused_here}
+use Rattle.module_grammar.specs.inside.ModuleStates.{other_version}
 use Rattle.module_grammar.specs.inside.ModuleMachine.{refused_before, undecided}
 use Rattle.expression_grammar.specs.inside.Machine.{sort_of, from_to, is_deferred, Frame, Mode, wanted}
 use Rattle.module_grammar.specs.inside.ModuleLeads.{MayGoOn, ModuleLeads, ModuleEnds, here, next}

@@ -7,7 +7,8 @@ use Rattle.mdl_syntax.specs.declared.expressions.Lit.TheVariants as lit
 use Rattle.mdl_syntax.specs.declared.modules.VersionLit.{VersionLit}
 use Rattle.mdl_syntax.specs.Trees.{Tree, call}
 use Rattle.mdl_syntax.specs.Modules.{Annotation}
-use Rattle.module_grammar.specs.inside.ModuleMachine.{plain_parameter, is_call_site, may_name}
+use Rattle.module_grammar.specs.inside.ModuleMachine.{is_call_site, may_name}
+use Rattle.module_grammar.specs.inside.ModuleStates.{plain_parameter}
 use Rattle.module_grammar.specs.inside.ModuleMachine.{call_read, whole_call, call_goes, call_outcome}
 use Rattle.module_grammar.specs.inside.ModuleMachine.{expression_outcome, call_step, closes}
 use Rattle.module_grammar.specs.inside.ModuleMachine.{closed_by, is_bracket, by_finish}
@@ -16,25 +17,26 @@ use Rattle.module_grammar.specs.inside.ModuleMachine.{annotations_behind, unless
 use Rattle.module_grammar.specs.inside.ModuleMachine.{index_outcome, opened_step}
 use Rattle.module_grammar.specs.inside.ModuleMachine.{first_annotation_step, position_step}
 use Rattle.module_grammar.specs.inside.ModuleMachine.{version_step, version_ends, state_step}
-use Rattle.module_grammar.specs.inside.ModuleMachine.{module_sort_step, Begun, Holder, Site}
-use Rattle.module_grammar.specs.inside.ModuleMachine.{Position, State, Outcome, in_function_body}
-use Rattle.module_grammar.specs.inside.ModuleMachine.{in_default, in_field_default, in_annotation}
-use Rattle.module_grammar.specs.inside.ModuleMachine.{in_base, of_parameter, item_wanted, importing}
-use Rattle.module_grammar.specs.inside.ModuleMachine.{imported, using, used_wanted, used_read}
-use Rattle.module_grammar.specs.inside.ModuleMachine.{used_next, used_all, own_wanted}
-use Rattle.module_grammar.specs.inside.ModuleMachine.{annotations_begun, first_annotation}
-use Rattle.module_grammar.specs.inside.ModuleMachine.{annotation_read, annotations_closing}
-use Rattle.module_grammar.specs.inside.ModuleMachine.{annotated, exported_read, kin_named}
-use Rattle.module_grammar.specs.inside.ModuleMachine.{annotation_named, fronting, declared}
-use Rattle.module_grammar.specs.inside.ModuleMachine.{parameters_begun, star_read, variant_read}
-use Rattle.module_grammar.specs.inside.ModuleMachine.{base_read, parameter_read, parameter_next}
-use Rattle.module_grammar.specs.inside.ModuleMachine.{function_read, annotation_declared}
-use Rattle.module_grammar.specs.inside.ModuleMachine.{struct_named, fields_read, field_read}
-use Rattle.module_grammar.specs.inside.ModuleMachine.{enum_named, value_wanted, value_read}
-use Rattle.module_grammar.specs.inside.ModuleMachine.{number_wanted, number_read, struct_closed}
-use Rattle.module_grammar.specs.inside.ModuleMachine.{enum_closed, expression, opened, mdl_wanted}
-use Rattle.module_grammar.specs.inside.ModuleMachine.{version_wanted, version_read, within, on}
-use Rattle.module_grammar.specs.inside.ModuleMachine.{wrong}
+use Rattle.module_grammar.specs.inside.ModuleMachine.{module_sort_step}
+use Rattle.module_grammar.specs.inside.ModuleStates.{Begun, Holder, Site}
+use Rattle.module_grammar.specs.inside.ModuleStates.{Position, State, Outcome, in_function_body}
+use Rattle.module_grammar.specs.inside.ModuleStates.{in_default, in_field_default, in_annotation}
+use Rattle.module_grammar.specs.inside.ModuleStates.{in_base, of_parameter, item_wanted, importing}
+use Rattle.module_grammar.specs.inside.ModuleStates.{imported, using, used_wanted, used_read}
+use Rattle.module_grammar.specs.inside.ModuleStates.{used_next, used_all, own_wanted}
+use Rattle.module_grammar.specs.inside.ModuleStates.{annotations_begun, first_annotation}
+use Rattle.module_grammar.specs.inside.ModuleStates.{annotation_read, annotations_closing}
+use Rattle.module_grammar.specs.inside.ModuleStates.{annotated, exported_read, kin_named}
+use Rattle.module_grammar.specs.inside.ModuleStates.{annotation_named, fronting, declared}
+use Rattle.module_grammar.specs.inside.ModuleStates.{parameters_begun, star_read, variant_read}
+use Rattle.module_grammar.specs.inside.ModuleStates.{base_read, parameter_read, parameter_next}
+use Rattle.module_grammar.specs.inside.ModuleStates.{function_read, annotation_declared}
+use Rattle.module_grammar.specs.inside.ModuleStates.{struct_named, fields_read, field_read}
+use Rattle.module_grammar.specs.inside.ModuleStates.{enum_named, value_wanted, value_read}
+use Rattle.module_grammar.specs.inside.ModuleStates.{number_wanted, number_read, struct_closed}
+use Rattle.module_grammar.specs.inside.ModuleStates.{enum_closed, expression, opened, mdl_wanted}
+use Rattle.module_grammar.specs.inside.ModuleStates.{version_wanted, version_read, within, on}
+use Rattle.module_grammar.specs.inside.ModuleStates.{wrong}
 use Rattle.expression_grammar.specs.inside.Machine.{head_step, mode_step, finish, Sort, Frame, Mode}
 use Rattle.expression_grammar.specs.inside.Machine.{Step, Finish, other_literal, opening_bracket}
 use Rattle.expression_grammar.specs.inside.Machine.{closing_bracket, semicolon, mdl_word, left_out}

@@ -10,8 +10,8 @@ use Rattle.mdl_syntax.specs.declared.imports.Lead.TheVariants as lead_form
 use Rattle.mdl_syntax.specs.declared.imports.ModuleRef.{ModuleRef}
 use Rattle.mdl_syntax.specs.declared.imports.Qualified.{Qualified}
 use Rattle.mdl_syntax.specs.Modules.{Annotation, Parameter, EnumValue}
-use Rattle.module_grammar.specs.inside.ModuleMachine.{is_star, parameter_from, plain_parameter}
-use Rattle.module_grammar.specs.inside.ModuleMachine.{enum_value_from, qualified_from, naming_step}
+use Rattle.module_grammar.specs.inside.ModuleStates.{is_star, parameter_from, plain_parameter}
+use Rattle.module_grammar.specs.inside.ModuleStates.{enum_value_from, qualified_from, naming_step}
 use Rattle.module_grammar.specs.inside.ModuleMachine.{naming_or, import_ends, import_item, all_of}
 use Rattle.module_grammar.specs.inside.ModuleMachine.{import_step, using_step, used_wanted_step}
 use Rattle.module_grammar.specs.inside.ModuleMachine.{used_read_step, used_next_step, used_all_step}
@@ -31,17 +31,18 @@ use Rattle.module_grammar.specs.inside.ModuleMachine.{enum_named_step, value_wan
 use Rattle.module_grammar.specs.inside.ModuleMachine.{value_step, number_step, number_read_step}
 use Rattle.module_grammar.specs.inside.ModuleMachine.{enum_closed_step, second_bracket, own_step}
 use Rattle.module_grammar.specs.inside.ModuleMachine.{annotation_read_step, closing_annotations}
-use Rattle.module_grammar.specs.inside.ModuleMachine.{own_ends, annotated_step, closes, Naming}
-use Rattle.module_grammar.specs.inside.ModuleMachine.{Begun, Named, Fronted, Front, Owner, Struct}
-use Rattle.module_grammar.specs.inside.ModuleMachine.{Enum, Holder, Site, Fronting, Kin, Position}
-use Rattle.module_grammar.specs.inside.ModuleMachine.{State, Outcome, unnamed, parted, open_ended}
-use Rattle.module_grammar.specs.inside.ModuleMachine.{of_function, of_annotation, the_module}
-use Rattle.module_grammar.specs.inside.ModuleMachine.{a_parameter, a_function, an_annotation}
-use Rattle.module_grammar.specs.inside.ModuleMachine.{a_variant, a_struct, a_field, an_enum}
-use Rattle.module_grammar.specs.inside.ModuleMachine.{an_enum_value, of_declaration, of_parameter}
-use Rattle.module_grammar.specs.inside.ModuleMachine.{of_field, struct_kin, enum_kin, annotation_kin}
-use Rattle.module_grammar.specs.inside.ModuleMachine.{importing, imported, using, used_all, fronting}
-use Rattle.module_grammar.specs.inside.ModuleMachine.{expression, opened, within, on, wrong}
+use Rattle.module_grammar.specs.inside.ModuleMachine.{own_ends, annotated_step, closes}
+use Rattle.module_grammar.specs.inside.ModuleStates.{Naming}
+use Rattle.module_grammar.specs.inside.ModuleStates.{Begun, Named, Fronted, Front, Owner, Struct}
+use Rattle.module_grammar.specs.inside.ModuleStates.{Enum, Holder, Site, Fronting, Kin, Position}
+use Rattle.module_grammar.specs.inside.ModuleStates.{State, Outcome, unnamed, parted, open_ended}
+use Rattle.module_grammar.specs.inside.ModuleStates.{of_function, of_annotation, the_module}
+use Rattle.module_grammar.specs.inside.ModuleStates.{a_parameter, a_function, an_annotation}
+use Rattle.module_grammar.specs.inside.ModuleStates.{a_variant, a_struct, a_field, an_enum}
+use Rattle.module_grammar.specs.inside.ModuleStates.{an_enum_value, of_declaration, of_parameter}
+use Rattle.module_grammar.specs.inside.ModuleStates.{of_field, struct_kin, enum_kin, annotation_kin}
+use Rattle.module_grammar.specs.inside.ModuleStates.{importing, imported, using, used_all, fronting}
+use Rattle.module_grammar.specs.inside.ModuleStates.{expression, opened, within, on, wrong}
 use Rattle.expression_grammar.specs.inside.Machine.{type_step, head_step, Sort, Head, Frame, Mode, Step}
 use Rattle.expression_grammar.specs.inside.Machine.{identifier, integer, other_literal, binary_operator}
 use Rattle.expression_grammar.specs.inside.Machine.{opening, closing, opening_bracket, closing_bracket}

@@ -7,7 +7,7 @@ use Rattle.mdl_syntax.specs.PlacedModules.{placed_module}
 use Rattle.mdl_syntax.specs.LevelledModules.{IsModule}
 use Rattle.mdl_syntax.specs.AcceptedModules.{module_height, is_version, IsPlain}
 use Rattle.expression_grammar.specs.Readings.{kinds}
-use Rattle.module_grammar.specs.inside.ModuleMachine.{mdl_wanted}
+use Rattle.module_grammar.specs.inside.ModuleStates.{mdl_wanted}
 use Rattle.module_grammar.specs.inside.ModuleLeads.{ModuleEnds}
 use Rattle.module_grammar.proofs.ModuleWroteLaws.{wrote_module}
 use Rattle.module_grammar.proofs.ModuleHeightLaws.{placed_module_height}

@@ -22,11 +22,13 @@ use Rattle.expression_grammar.specs.inside.Wrote.{PathWrote, one_part, absolute_
 use Rattle.expression_grammar.specs.inside.Wrote.{NameWrote}
 use Rattle.expression_grammar.specs.inside.Wrote.{a_path, a_word, Wrote, a_call}
 use Rattle.module_grammar.specs.inside.WroteModules.{annotation_tokens}
-use Rattle.module_grammar.specs.inside.ModuleMachine.{State, on, within, Begun, Site}
-use Rattle.module_grammar.specs.inside.ModuleMachine.{in_function_body, in_annotation, in_base}
+use Rattle.module_grammar.specs.inside.ModuleStates.{State, on, within, Begun, Site}
+use Rattle.module_grammar.specs.inside.ModuleStates.{in_function_body, in_annotation, in_base}
 use Rattle.module_grammar.specs.inside.ModuleMachine.{is_call_site, may_name, call_read, call_goes}
-use Rattle.module_grammar.specs.inside.ModuleMachine.{call_outcome, call_step, value_step_of, wrong}
-use Rattle.module_grammar.specs.inside.ModuleMachine.{expression, expression_step, module_sort_step}
+use Rattle.module_grammar.specs.inside.ModuleMachine.{call_outcome, call_step, value_step_of}
+use Rattle.module_grammar.specs.inside.ModuleStates.{wrong}
+use Rattle.module_grammar.specs.inside.ModuleMachine.{expression_step, module_sort_step}
+use Rattle.module_grammar.specs.inside.ModuleStates.{expression}
 use Rattle.module_grammar.specs.inside.ModuleMachine.{permitted, permitted_state}
 use Rattle.module_grammar.specs.inside.ModuleLeads.{ModuleLeads, here, next}
 use Rattle.expression_grammar.proofs.TakenLaws.{taken_goes}

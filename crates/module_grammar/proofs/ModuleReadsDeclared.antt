@@ -4,8 +4,8 @@ use Rattle.mdl_lexer.specs.declared.token.Token.{Token}
 use Rattle.mdl_syntax.specs.Placed.{last_end}
 use Rattle.mdl_syntax.specs.Modules.{Declaration, structure, enumeration}
 use Rattle.mdl_syntax.specs.AcceptedModules.{declaration_height}
-use Rattle.module_grammar.specs.inside.ModuleMachine.{within, Begun, item_wanted}
-use Rattle.module_grammar.specs.inside.ModuleMachine.{with_declaration}
+use Rattle.module_grammar.specs.inside.ModuleStates.{within, Begun, item_wanted}
+use Rattle.module_grammar.specs.inside.ModuleStates.{with_declaration}
 use Rattle.module_grammar.specs.inside.WroteModules.{DeclarationWrote, structure_tokens}
 use Rattle.module_grammar.specs.inside.WroteModules.{enumeration_tokens}
 use Rattle.module_grammar.proofs.ModuleReadsParts.{Way}

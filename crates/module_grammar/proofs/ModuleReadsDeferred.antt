@@ -1,8 +1,8 @@
 -- How the machine of modules goes on where it keeps the place of the first size that is deferred.
 use Rattle.std.proofs.Common.{◌≡◌, ◌∙◌, ℕ, suc, Bool, true, List, ◌++◌, Option}
 use Rattle.mdl_lexer.specs.declared.token.Token.{Token}
-use Rattle.module_grammar.specs.inside.ModuleMachine.{State, Fronted, Owner, of_function}
-use Rattle.module_grammar.specs.inside.ModuleMachine.{of_annotation, Named}
+use Rattle.module_grammar.specs.inside.ModuleStates.{State, Fronted, Owner, of_function}
+use Rattle.module_grammar.specs.inside.ModuleStates.{of_annotation, Named}
 use Rattle.mdl_syntax.specs.declared.types.TypeTree.{TypeTree}
 use Rattle.module_grammar.specs.inside.ModuleLeads.{ModuleLeads, here, next}
 use Rattle.module_grammar.proofs.ModuleReadsParts.{Way}

@@ -9,10 +9,11 @@ use Rattle.mdl_syntax.specs.Modules.{Annotation, EnumValue}
 use Rattle.mdl_syntax.specs.AcceptedModules.{highest, enum_value_height}
 use Rattle.expression_grammar.specs.inside.Machine.{sort_of, identifier, integer, comma, closing_brace}
 use Rattle.expression_grammar.specs.inside.Machine.{equals, ident_at}
-use Rattle.module_grammar.specs.inside.ModuleMachine.{State, on, within, state_step, Begun, Named, Enum}
-use Rattle.module_grammar.specs.inside.ModuleMachine.{an_enum_value, value_wanted, value_read}
-use Rattle.module_grammar.specs.inside.ModuleMachine.{number_wanted, number_read, enum_closed}
-use Rattle.module_grammar.specs.inside.ModuleMachine.{enum_value_from, with_value}
+use Rattle.module_grammar.specs.inside.ModuleMachine.{state_step}
+use Rattle.module_grammar.specs.inside.ModuleStates.{State, on, within, Begun, Named, Enum}
+use Rattle.module_grammar.specs.inside.ModuleStates.{an_enum_value, value_wanted, value_read}
+use Rattle.module_grammar.specs.inside.ModuleStates.{number_wanted, number_read, enum_closed}
+use Rattle.module_grammar.specs.inside.ModuleStates.{enum_value_from, with_value}
 use Rattle.expression_grammar.specs.inside.Sound.{IsMark, place}
 use Rattle.module_grammar.specs.inside.WroteModules.{EnumValueWrote, enum_value_tokens}
 use Rattle.module_grammar.specs.inside.WroteModules.{no_number, a_number, MoreWrote, no_more, one_more}

@@ -11,11 +11,13 @@ use Rattle.mdl_syntax.specs.Modules.{Annotation, Parameter, Declaration}
 use Rattle.mdl_syntax.specs.AcceptedModules.{highest, parameter_height, value_height}
 use Rattle.mdl_syntax.specs.AcceptedModules.{annotations_height}
 use Rattle.expression_grammar.specs.inside.Machine.{sort_of, semicolon, equals, wanted, ident_at}
-use Rattle.module_grammar.specs.inside.ModuleMachine.{State, on, within, state_step, Begun, Named}
-use Rattle.module_grammar.specs.inside.ModuleMachine.{Struct, Front, a_field, fields_read, field_read}
-use Rattle.module_grammar.specs.inside.ModuleMachine.{with_field, plain_parameter, parameter_from}
-use Rattle.module_grammar.specs.inside.ModuleMachine.{expression, in_field_default, first_annotation, annotated}
-use Rattle.module_grammar.specs.inside.ModuleMachine.{front_from, with_declaration}
+use Rattle.module_grammar.specs.inside.ModuleMachine.{state_step}
+use Rattle.module_grammar.specs.inside.ModuleStates.{State, on, within, Begun, Named}
+use Rattle.module_grammar.specs.inside.ModuleStates.{Struct, Front, a_field, fields_read, field_read}
+use Rattle.module_grammar.specs.inside.ModuleStates.{with_field, plain_parameter, parameter_from}
+use Rattle.module_grammar.specs.inside.ModuleStates.{expression, in_field_default, first_annotation, annotated}
+use Rattle.module_grammar.specs.inside.ModuleMachine.{front_from}
+use Rattle.module_grammar.specs.inside.ModuleStates.{with_declaration}
 use Rattle.expression_grammar.specs.inside.Sound.{IsMark, place}
 use Rattle.expression_grammar.specs.inside.Wrote.{Wrote}
 use Rattle.module_grammar.specs.inside.WroteModules.{ValueWrote, no_value, a_value, AnnotationsWrote}

@@ -15,9 +15,11 @@ use Rattle.expression_grammar.specs.inside.Machine.{part_wanted, part_read, word
 use Rattle.expression_grammar.specs.inside.Machine.{absolute_path, word_name, type_wanted, type_bracketed}
 use Rattle.expression_grammar.specs.inside.Machine.{deferred_wanted, deferred_read, deferred_closed}
 use Rattle.expression_grammar.specs.inside.Machine.{name_wanted, type_of, ident_at}
-use Rattle.module_grammar.specs.inside.ModuleMachine.{State, on, within, state_step, Begun, Fronting}
-use Rattle.module_grammar.specs.inside.ModuleMachine.{of_declaration, of_parameter, of_field, fronting}
-use Rattle.module_grammar.specs.inside.ModuleMachine.{named_state, Struct, fields_read}
+use Rattle.module_grammar.specs.inside.ModuleMachine.{state_step}
+use Rattle.module_grammar.specs.inside.ModuleStates.{State, on, within, Begun, Fronting}
+use Rattle.module_grammar.specs.inside.ModuleStates.{of_declaration, of_parameter, of_field, fronting}
+use Rattle.module_grammar.specs.inside.ModuleMachine.{named_state}
+use Rattle.module_grammar.specs.inside.ModuleStates.{Struct, fields_read}
 use Rattle.expression_grammar.specs.inside.Sound.{place}
 use Rattle.expression_grammar.specs.inside.Wrote.{TypeWrote, of_one, of_size, of_deferred}
 use Rattle.module_grammar.specs.inside.WroteModules.{FrequencyWrote, no_front, a_front}

@@ -14,12 +14,15 @@ use Rattle.mdl_syntax.specs.Modules.{Annotation, Parameter, function, material}
 use Rattle.mdl_syntax.specs.AcceptedModules.{highest, parameter_height, annotations_height}
 use Rattle.expression_grammar.specs.inside.Machine.{sort_of, equals, semicolon, wanted, frequency_word}
 use Rattle.expression_grammar.specs.inside.Machine.{ident_at, from_to}
-use Rattle.module_grammar.specs.inside.ModuleMachine.{State, on, within, state_step, Begun, Named}
-use Rattle.module_grammar.specs.inside.ModuleMachine.{Fronted, of_function, a_function, item_wanted}
-use Rattle.module_grammar.specs.inside.ModuleMachine.{declared, function_read, expression}
-use Rattle.module_grammar.specs.inside.ModuleMachine.{in_function_body, with_declaration}
-use Rattle.module_grammar.specs.inside.ModuleMachine.{function_from, prototype_from, judged}
-use Rattle.module_grammar.specs.inside.ModuleMachine.{before_body, place_of_declaration, is_material}
+use Rattle.module_grammar.specs.inside.ModuleMachine.{state_step}
+use Rattle.module_grammar.specs.inside.ModuleStates.{State, on, within, Begun, Named}
+use Rattle.module_grammar.specs.inside.ModuleStates.{Fronted, of_function, a_function, item_wanted}
+use Rattle.module_grammar.specs.inside.ModuleStates.{declared, function_read, expression}
+use Rattle.module_grammar.specs.inside.ModuleStates.{in_function_body, with_declaration}
+use Rattle.module_grammar.specs.inside.ModuleMachine.{judged}
+use Rattle.module_grammar.specs.inside.ModuleStates.{function_from, prototype_from}
+use Rattle.module_grammar.specs.inside.ModuleMachine.{before_body}
+use Rattle.module_grammar.specs.inside.ModuleStates.{place_of_declaration, is_material}
 use Rattle.expression_grammar.specs.inside.Sound.{IsMark, place}
 use Rattle.expression_grammar.specs.inside.Wrote.{Wrote, TypeWrote}
 use Rattle.module_grammar.specs.inside.WroteModules.{ExportWrote, FrequencyWrote, no_front, a_front}

@@ -15,13 +15,16 @@ use Rattle.mdl_syntax.specs.Levels.{mark_number}
 use Rattle.expression_grammar.specs.inside.Machine.{Sort, sort_of, identifier, double_colon, ident_at}
 use Rattle.expression_grammar.specs.inside.Machine.{comma, semicolon, binary_operator, import_word}
 use Rattle.expression_grammar.specs.inside.Machine.{using_word, from_to}
-use Rattle.module_grammar.specs.inside.ModuleMachine.{Naming, unnamed}
-use Rattle.module_grammar.specs.inside.ModuleMachine.{parted, open_ended, Begun}
-use Rattle.module_grammar.specs.inside.ModuleMachine.{State, on, within, state_step}
-use Rattle.module_grammar.specs.inside.ModuleMachine.{importing, imported, using, used_wanted}
-use Rattle.module_grammar.specs.inside.ModuleMachine.{used_read, used_next, used_all, item_wanted}
-use Rattle.module_grammar.specs.inside.ModuleMachine.{with_import, import_step, using_step}
-use Rattle.module_grammar.specs.inside.ModuleMachine.{import_item, qualified_from, module_name, all_of}
+use Rattle.module_grammar.specs.inside.ModuleStates.{Naming, unnamed}
+use Rattle.module_grammar.specs.inside.ModuleStates.{parted, open_ended, Begun}
+use Rattle.module_grammar.specs.inside.ModuleMachine.{state_step}
+use Rattle.module_grammar.specs.inside.ModuleStates.{State, on, within}
+use Rattle.module_grammar.specs.inside.ModuleStates.{importing, imported, using, used_wanted}
+use Rattle.module_grammar.specs.inside.ModuleStates.{used_read, used_next, used_all, item_wanted}
+use Rattle.module_grammar.specs.inside.ModuleMachine.{import_step, using_step}
+use Rattle.module_grammar.specs.inside.ModuleStates.{with_import}
+use Rattle.module_grammar.specs.inside.ModuleMachine.{import_item, all_of}
+use Rattle.module_grammar.specs.inside.ModuleStates.{qualified_from, module_name}
 use Rattle.expression_grammar.specs.inside.Sound.{IsMark, place}
 use Rattle.module_grammar.specs.inside.WroteModules.{longer_name, QualifiedWrote}
 use Rattle.module_grammar.specs.inside.WroteModules.{all_names, one_name, IdentWrote, an_ident}

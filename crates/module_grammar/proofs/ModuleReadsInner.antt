@@ -7,9 +7,9 @@ use Rattle.mdl_syntax.specs.declared.names.Span.{Span}
 use Rattle.mdl_syntax.specs.Modules.{Annotation}
 use Rattle.mdl_syntax.specs.AcceptedModules.{highest, annotation_height}
 use Rattle.expression_grammar.specs.inside.Machine.{Sort, sort_of, comma, closing_bracket, wanted}
-use Rattle.module_grammar.specs.inside.ModuleMachine.{State, Outcome, on, within, Begun, Holder}
-use Rattle.module_grammar.specs.inside.ModuleMachine.{first_annotation, annotated, annotation_read}
-use Rattle.module_grammar.specs.inside.ModuleMachine.{annotations_closing, expression, in_annotation}
+use Rattle.module_grammar.specs.inside.ModuleStates.{State, Outcome, on, within, Begun, Holder}
+use Rattle.module_grammar.specs.inside.ModuleStates.{first_annotation, annotated, annotation_read}
+use Rattle.module_grammar.specs.inside.ModuleStates.{annotations_closing, expression, in_annotation}
 use Rattle.module_grammar.specs.inside.ModuleMachine.{permitted, module_sort_step}
 use Rattle.module_grammar.specs.inside.ModuleLeads.{ModuleLeads, here, next}
 use Rattle.expression_grammar.specs.inside.Sound.{place}

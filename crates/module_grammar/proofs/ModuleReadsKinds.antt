@@ -10,13 +10,15 @@ use Rattle.mdl_syntax.specs.AcceptedModules.{highest, enum_value_height, annotat
 use Rattle.expression_grammar.specs.inside.Machine.{Sort, sort_of, identifier, struct_word, enum_word}
 use Rattle.expression_grammar.specs.inside.Machine.{annotation_word, export_word, opening_brace}
 use Rattle.expression_grammar.specs.inside.Machine.{closing_brace, semicolon, ident_at, from_to}
-use Rattle.module_grammar.specs.inside.ModuleMachine.{State, on, within, Begun, Named, Kin}
-use Rattle.module_grammar.specs.inside.ModuleMachine.{struct_kin, enum_kin, annotation_kin, kin_named}
-use Rattle.module_grammar.specs.inside.ModuleMachine.{item_wanted, exported_read, item_step, Struct}
+use Rattle.module_grammar.specs.inside.ModuleStates.{State, on, within, Begun, Named, Kin}
+use Rattle.module_grammar.specs.inside.ModuleStates.{struct_kin, enum_kin, annotation_kin, kin_named}
+use Rattle.module_grammar.specs.inside.ModuleMachine.{item_step}
+use Rattle.module_grammar.specs.inside.ModuleStates.{item_wanted, exported_read, Struct}
 use Rattle.module_grammar.specs.inside.ModuleMachine.{kin_state, exported_step}
-use Rattle.module_grammar.specs.inside.ModuleMachine.{enum_named, struct_named, an_enum, a_struct}
-use Rattle.module_grammar.specs.inside.ModuleMachine.{enum_closed, value_wanted, with_declaration}
-use Rattle.module_grammar.specs.inside.ModuleMachine.{struct_closed, fields_read, permitted_state}
+use Rattle.module_grammar.specs.inside.ModuleStates.{enum_named, struct_named, an_enum, a_struct}
+use Rattle.module_grammar.specs.inside.ModuleStates.{enum_closed, value_wanted, with_declaration}
+use Rattle.module_grammar.specs.inside.ModuleMachine.{permitted_state}
+use Rattle.module_grammar.specs.inside.ModuleStates.{struct_closed, fields_read}
 use Rattle.expression_grammar.specs.inside.Sound.{IsMark, IsReserved, place}
 use Rattle.module_grammar.specs.inside.WroteModules.{ExportWrote, not_exported, export_tokens}
 use Rattle.module_grammar.specs.inside.WroteModules.{AnnotationsWrote, SeveralWrote, EnumValueWrote}

@@ -9,8 +9,8 @@ use Rattle.mdl_syntax.specs.Modules.{Declaration, ModuleTree, material, variant,
 use Rattle.mdl_syntax.specs.Modules.{annotation}
 use Rattle.mdl_syntax.specs.AcceptedModules.{declaration_height, module_height, is_version}
 use Rattle.expression_grammar.specs.inside.Machine.{word_name, type_of, ident_at}
-use Rattle.module_grammar.specs.inside.ModuleMachine.{within, Begun, item_wanted, mdl_wanted}
-use Rattle.module_grammar.specs.inside.ModuleMachine.{with_declaration}
+use Rattle.module_grammar.specs.inside.ModuleStates.{within, Begun, item_wanted, mdl_wanted}
+use Rattle.module_grammar.specs.inside.ModuleStates.{with_declaration}
 use Rattle.module_grammar.specs.inside.ModuleLeads.{ModuleEnds}
 use Rattle.expression_grammar.specs.inside.Sound.{place}
 use Rattle.expression_grammar.specs.inside.Wrote.{of_one, a_word}

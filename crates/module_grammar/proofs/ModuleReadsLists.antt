@@ -5,7 +5,7 @@ use Rattle.std.proofs.lemmas.List.{append_assoc, append-nil}
 use Rattle.mdl_lexer.specs.declared.token.Token.{Token}
 use Rattle.mdl_syntax.specs.Placed.{last_end}
 use Rattle.mdl_syntax.specs.AcceptedModules.{highest}
-use Rattle.module_grammar.specs.inside.ModuleMachine.{State}
+use Rattle.module_grammar.specs.inside.ModuleStates.{State}
 use Rattle.module_grammar.specs.inside.WroteModules.{EachWrote, no_other, another}
 use Rattle.expression_grammar.proofs.KindLaws.{last_end_append}
 use Rattle.module_grammar.proofs.ModuleReadsParts.{Way, way_on, stay}

@@ -6,9 +6,10 @@ use Rattle.mdl_syntax.specs.declared.names.Ident.{Ident}
 use Rattle.mdl_syntax.specs.declared.imports.Lead.{Lead}
 use Rattle.mdl_syntax.specs.declared.imports.Lead.TheVariants as lead
 use Rattle.expression_grammar.specs.inside.Machine.{Sort, sort_of, identifier, double_colon, dot, ident_at}
-use Rattle.module_grammar.specs.inside.ModuleMachine.{Naming, unnamed, one_dot, two_dots, up_steps}
-use Rattle.module_grammar.specs.inside.ModuleMachine.{one_dot_behind, led, parted, open_ended}
-use Rattle.module_grammar.specs.inside.ModuleMachine.{State, on, state_step, permitted_state}
+use Rattle.module_grammar.specs.inside.ModuleStates.{Naming, unnamed, one_dot, two_dots, up_steps}
+use Rattle.module_grammar.specs.inside.ModuleStates.{one_dot_behind, led, parted, open_ended}
+use Rattle.module_grammar.specs.inside.ModuleMachine.{state_step, permitted_state}
+use Rattle.module_grammar.specs.inside.ModuleStates.{State, on}
 use Rattle.expression_grammar.specs.inside.Sound.{place}
 use Rattle.module_grammar.specs.inside.WroteModules.{UpWrote, one_up, more_up, LeadWrote, bare_lead}
 use Rattle.module_grammar.specs.inside.WroteModules.{absolute_lead, here_lead, up_lead, NamingWrote}

@@ -6,8 +6,9 @@ use Rattle.mdl_syntax.specs.declared.names.Span.{Span}
 use Rattle.mdl_syntax.specs.Modules.{Annotation}
 use Rattle.mdl_syntax.specs.AcceptedModules.{highest, annotation_height, annotations_height}
 use Rattle.expression_grammar.specs.inside.Machine.{sort_of, opening_bracket}
-use Rattle.module_grammar.specs.inside.ModuleMachine.{State, on, within, state_step, Begun, Holder}
-use Rattle.module_grammar.specs.inside.ModuleMachine.{annotations_begun, first_annotation, annotated}
+use Rattle.module_grammar.specs.inside.ModuleMachine.{state_step}
+use Rattle.module_grammar.specs.inside.ModuleStates.{State, on, within, Begun, Holder}
+use Rattle.module_grammar.specs.inside.ModuleStates.{annotations_begun, first_annotation, annotated}
 use Rattle.expression_grammar.specs.inside.Sound.{IsMark, place}
 use Rattle.module_grammar.specs.inside.WroteModules.{SeveralWrote, AnnotationWrote, AnnotationsWrote}
 use Rattle.module_grammar.specs.inside.WroteModules.{not_annotated, annotations_tokens}

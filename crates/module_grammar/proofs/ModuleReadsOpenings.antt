@@ -5,8 +5,9 @@ use Rattle.mdl_lexer.specs.declared.token.Kind.TheVariants as kind
 use Rattle.mdl_syntax.specs.declared.types.TypeTree.{TypeTree}
 use Rattle.expression_grammar.specs.inside.Machine.{sort_of, export_word, part_wanted, part_read, word_read}
 use Rattle.expression_grammar.specs.inside.Machine.{in_type, first_part, absolute_path, word_name, ident_at}
-use Rattle.module_grammar.specs.inside.ModuleMachine.{on, within, Begun, of_declaration, fronting}
-use Rattle.module_grammar.specs.inside.ModuleMachine.{named_state, item_wanted, exported_read}
+use Rattle.module_grammar.specs.inside.ModuleStates.{on, within, Begun, of_declaration, fronting}
+use Rattle.module_grammar.specs.inside.ModuleMachine.{named_state}
+use Rattle.module_grammar.specs.inside.ModuleStates.{item_wanted, exported_read}
 use Rattle.expression_grammar.specs.inside.Sound.{place}
 use Rattle.expression_grammar.specs.inside.Wrote.{TypeWrote}
 use Rattle.module_grammar.specs.inside.WroteModules.{ExportWrote, not_exported, export_tokens}

@@ -19,10 +19,12 @@ use Rattle.expression_grammar.specs.inside.Machine.{part_wanted, part_read, word
 use Rattle.expression_grammar.specs.inside.Machine.{absolute_path, word_name, type_wanted, type_bracketed}
 use Rattle.expression_grammar.specs.inside.Machine.{deferred_wanted, deferred_read, deferred_closed}
 use Rattle.expression_grammar.specs.inside.Machine.{name_wanted, type_of, ident_at}
-use Rattle.module_grammar.specs.inside.ModuleMachine.{State, on, within, state_step, Begun, Owner}
-use Rattle.module_grammar.specs.inside.ModuleMachine.{of_function, of_annotation, of_parameter}
-use Rattle.module_grammar.specs.inside.ModuleMachine.{fronting, front_from, parameter_read}
-use Rattle.module_grammar.specs.inside.ModuleMachine.{parameters_begun, parameter_next}
+use Rattle.module_grammar.specs.inside.ModuleMachine.{state_step}
+use Rattle.module_grammar.specs.inside.ModuleStates.{State, on, within, Begun, Owner}
+use Rattle.module_grammar.specs.inside.ModuleStates.{of_function, of_annotation, of_parameter}
+use Rattle.module_grammar.specs.inside.ModuleMachine.{front_from}
+use Rattle.module_grammar.specs.inside.ModuleStates.{fronting, parameter_read}
+use Rattle.module_grammar.specs.inside.ModuleStates.{parameters_begun, parameter_next}
 use Rattle.module_grammar.specs.inside.ModuleLeads.{next}
 use Rattle.expression_grammar.specs.inside.Sound.{IsMark, place}
 use Rattle.expression_grammar.specs.inside.Wrote.{TypeWrote, of_one, of_size, of_deferred}

@@ -10,12 +10,15 @@ use Rattle.mdl_syntax.specs.AcceptedModules.{highest, parameter_height, value_he
 use Rattle.mdl_syntax.specs.AcceptedModules.{annotations_height}
 use Rattle.expression_grammar.specs.inside.Machine.{sort_of, comma, opening, closing, equals, wanted}
 use Rattle.expression_grammar.specs.inside.Machine.{ident_at}
-use Rattle.module_grammar.specs.inside.ModuleMachine.{State, on, within, state_step, Begun, Owner}
-use Rattle.module_grammar.specs.inside.ModuleMachine.{Front, of_function, of_annotation, a_parameter}
-use Rattle.module_grammar.specs.inside.ModuleMachine.{declared, annotation_named, parameters_begun}
-use Rattle.module_grammar.specs.inside.ModuleMachine.{parameter_read, parameter_next, parameters_state}
-use Rattle.module_grammar.specs.inside.ModuleMachine.{parameter_from, expression, in_default}
-use Rattle.module_grammar.specs.inside.ModuleMachine.{first_annotation, annotated, front_from}
+use Rattle.module_grammar.specs.inside.ModuleMachine.{state_step}
+use Rattle.module_grammar.specs.inside.ModuleStates.{State, on, within, Begun, Owner}
+use Rattle.module_grammar.specs.inside.ModuleStates.{Front, of_function, of_annotation, a_parameter}
+use Rattle.module_grammar.specs.inside.ModuleStates.{declared, annotation_named, parameters_begun}
+use Rattle.module_grammar.specs.inside.ModuleMachine.{parameters_state}
+use Rattle.module_grammar.specs.inside.ModuleStates.{parameter_read, parameter_next}
+use Rattle.module_grammar.specs.inside.ModuleStates.{parameter_from, expression, in_default}
+use Rattle.module_grammar.specs.inside.ModuleMachine.{front_from}
+use Rattle.module_grammar.specs.inside.ModuleStates.{first_annotation, annotated}
 use Rattle.module_grammar.specs.inside.ModuleMachine.{permitted_state}
 use Rattle.expression_grammar.specs.inside.Sound.{IsMark, place}
 use Rattle.module_grammar.specs.inside.WroteModules.{ValueWrote, no_value, a_value, AnnotationsWrote}

@@ -4,7 +4,8 @@ use Rattle.std.proofs.Common.{◌∷◌, ◌++◌}
 use Rattle.mdl_lexer.specs.declared.token.Token.{Token}
 use Rattle.mdl_syntax.specs.declared.names.Span.{Span}
 use Rattle.expression_grammar.specs.inside.Machine.{Sort, sort_of, left_out}
-use Rattle.module_grammar.specs.inside.ModuleMachine.{State, on, module_taken, state_step, permitted}
+use Rattle.module_grammar.specs.inside.ModuleMachine.{module_taken, state_step, permitted}
+use Rattle.module_grammar.specs.inside.ModuleStates.{State, on}
 use Rattle.module_grammar.specs.inside.ModuleMachine.{permitted_state, module_sort_step}
 use Rattle.module_grammar.specs.inside.ModuleLeads.{ModuleLeads, here, next}
 use Rattle.expression_grammar.specs.inside.Sound.{place}

@@ -8,11 +8,13 @@ use Rattle.mdl_syntax.specs.Trees.{Tree, Arguments, call}
 use Rattle.mdl_syntax.specs.Heights.{height, arguments_height}
 use Rattle.mdl_syntax.specs.Modules.{Annotation, Parameter}
 use Rattle.expression_grammar.specs.inside.Machine.{wanted, comma, closing}
-use Rattle.module_grammar.specs.inside.ModuleMachine.{State, on, within, state_step, Begun, Owner, Front}
-use Rattle.module_grammar.specs.inside.ModuleMachine.{Fronted, expression, in_default, in_base}
-use Rattle.module_grammar.specs.inside.ModuleMachine.{in_function_body, parameter_next, parameters_state}
-use Rattle.module_grammar.specs.inside.ModuleMachine.{plain_parameter, first_annotation, a_parameter}
-use Rattle.module_grammar.specs.inside.ModuleMachine.{with_declaration, function_from, base_read}
+use Rattle.module_grammar.specs.inside.ModuleMachine.{state_step}
+use Rattle.module_grammar.specs.inside.ModuleStates.{State, on, within, Begun, Owner, Front}
+use Rattle.module_grammar.specs.inside.ModuleStates.{Fronted, expression, in_default, in_base}
+use Rattle.module_grammar.specs.inside.ModuleMachine.{parameters_state}
+use Rattle.module_grammar.specs.inside.ModuleStates.{in_function_body, parameter_next}
+use Rattle.module_grammar.specs.inside.ModuleStates.{plain_parameter, first_annotation, a_parameter}
+use Rattle.module_grammar.specs.inside.ModuleStates.{with_declaration, function_from, base_read}
 use Rattle.expression_grammar.specs.inside.Sound.{IsMark}
 use Rattle.expression_grammar.specs.inside.Wrote.{Wrote}
 use Rattle.module_grammar.proofs.ModuleReadsParts.{Way}

@@ -16,8 +16,9 @@ use Rattle.expression_grammar.specs.inside.Machine.{part_read, word_read, in_typ
 use Rattle.expression_grammar.specs.inside.Machine.{absolute_path, longer_path, word_name, path_name}
 use Rattle.expression_grammar.specs.inside.Machine.{type_bracketed, type_sized, name_wanted, type_of}
 use Rattle.expression_grammar.specs.inside.Machine.{is_deferred, ident_at}
-use Rattle.module_grammar.specs.inside.ModuleMachine.{State, on, within, state_step, Begun, Fronting}
-use Rattle.module_grammar.specs.inside.ModuleMachine.{of_declaration, of_parameter, of_field, fronting}
+use Rattle.module_grammar.specs.inside.ModuleMachine.{state_step}
+use Rattle.module_grammar.specs.inside.ModuleStates.{State, on, within, Begun, Fronting}
+use Rattle.module_grammar.specs.inside.ModuleStates.{of_declaration, of_parameter, of_field, fronting}
 use Rattle.module_grammar.specs.inside.ModuleMachine.{named_state, permitted_state, judged, passes}
 use Rattle.module_grammar.specs.inside.ModuleMachine.{refused_here}
 use Rattle.expression_grammar.specs.inside.Sound.{place}

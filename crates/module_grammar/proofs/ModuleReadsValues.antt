@@ -12,10 +12,12 @@ use Rattle.expression_grammar.specs.inside.Machine.{opening_bracket, comma, semi
 use Rattle.expression_grammar.specs.inside.Machine.{mode_step, sort_step, is_deferred, step, taken}
 use Rattle.expression_grammar.specs.inside.Machine.{allowed}
 use Rattle.expression_grammar.specs.inside.Machine.{is_left_out, deep}
-use Rattle.module_grammar.specs.inside.ModuleMachine.{State, Outcome, on, within, Begun, Site}
-use Rattle.module_grammar.specs.inside.ModuleMachine.{in_function_body, in_default, in_field_default}
-use Rattle.module_grammar.specs.inside.ModuleMachine.{in_annotation, in_base, is_call_site, closes}
-use Rattle.module_grammar.specs.inside.ModuleMachine.{expression, opened, by_finish, value_step_of}
+use Rattle.module_grammar.specs.inside.ModuleStates.{State, Outcome, on, within, Begun, Site}
+use Rattle.module_grammar.specs.inside.ModuleStates.{in_function_body, in_default, in_field_default}
+use Rattle.module_grammar.specs.inside.ModuleMachine.{is_call_site, closes}
+use Rattle.module_grammar.specs.inside.ModuleStates.{in_annotation, in_base}
+use Rattle.module_grammar.specs.inside.ModuleMachine.{by_finish, value_step_of}
+use Rattle.module_grammar.specs.inside.ModuleStates.{expression, opened}
 use Rattle.module_grammar.specs.inside.ModuleMachine.{expression_outcome, opened_step, index_outcome}
 use Rattle.module_grammar.specs.inside.ModuleMachine.{expression_step, module_sort_step}
 use Rattle.module_grammar.specs.inside.ModuleMachine.{permitted, permitted_state}
@@ -27,8 +29,10 @@ use Rattle.expression_grammar.specs.inside.Leads.{Leads}
 use Rattle.expression_grammar.specs.inside.Leads as plain
 use Rattle.expression_grammar.specs.inside.Sound.{IsMark, place}
 use Rattle.expression_grammar.specs.inside.Wrote.{Wrote}
-use Rattle.module_grammar.specs.inside.ModuleMachine.{with_declaration, function_from, holder_of}
-use Rattle.module_grammar.specs.inside.ModuleMachine.{annotations_behind, first_annotation}
+use Rattle.module_grammar.specs.inside.ModuleMachine.{holder_of}
+use Rattle.module_grammar.specs.inside.ModuleStates.{with_declaration, function_from}
+use Rattle.module_grammar.specs.inside.ModuleMachine.{annotations_behind}
+use Rattle.module_grammar.specs.inside.ModuleStates.{first_annotation}
 use Rattle.expression_grammar.proofs.TakenLaws.{taken_goes}
 use Rattle.expression_grammar.proofs.ReadsLaws.{reads_wrote}
 use Rattle.module_grammar.proofs.ModuleReadsParts.{Way, way_on, stay, by_sort}

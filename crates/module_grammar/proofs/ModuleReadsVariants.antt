@@ -13,13 +13,13 @@ use Rattle.mdl_syntax.specs.Modules.{Annotation, Parameter, variant, annotation}
 use Rattle.mdl_syntax.specs.AcceptedModules.{highest, parameter_height, annotations_height}
 use Rattle.expression_grammar.specs.inside.Machine.{sort_of, opening, closing, binary_operator, equals}
 use Rattle.expression_grammar.specs.inside.Machine.{semicolon, wanted, ident_at, from_to}
-use Rattle.module_grammar.specs.inside.ModuleMachine.{State, within, Begun, Named, Fronted}
-use Rattle.module_grammar.specs.inside.ModuleMachine.{of_function, of_annotation, a_variant}
-use Rattle.module_grammar.specs.inside.ModuleMachine.{an_annotation, annotation_kin, item_wanted}
-use Rattle.module_grammar.specs.inside.ModuleMachine.{parameters_begun, star_read, variant_read}
-use Rattle.module_grammar.specs.inside.ModuleMachine.{annotation_named, annotation_declared}
-use Rattle.module_grammar.specs.inside.ModuleMachine.{expression, in_base, base_read, with_declaration}
-use Rattle.module_grammar.specs.inside.ModuleMachine.{place_of_declaration}
+use Rattle.module_grammar.specs.inside.ModuleStates.{State, within, Begun, Named, Fronted}
+use Rattle.module_grammar.specs.inside.ModuleStates.{of_function, of_annotation, a_variant}
+use Rattle.module_grammar.specs.inside.ModuleStates.{an_annotation, annotation_kin, item_wanted}
+use Rattle.module_grammar.specs.inside.ModuleStates.{parameters_begun, star_read, variant_read}
+use Rattle.module_grammar.specs.inside.ModuleStates.{annotation_named, annotation_declared}
+use Rattle.module_grammar.specs.inside.ModuleStates.{expression, in_base, base_read, with_declaration}
+use Rattle.module_grammar.specs.inside.ModuleStates.{place_of_declaration}
 use Rattle.expression_grammar.specs.inside.Sound.{IsMark, IsReserved, place}
 use Rattle.expression_grammar.specs.inside.Wrote.{Wrote, TypeWrote}
 use Rattle.module_grammar.specs.inside.WroteModules.{ExportWrote, AnnotationsWrote, ParametersWrote}

@@ -12,9 +12,9 @@ use Rattle.mdl_syntax.specs.AcceptedModules.{highest, annotations_height, declar
 use Rattle.mdl_syntax.specs.AcceptedModules.{module_height, is_version}
 use Rattle.expression_grammar.specs.inside.Machine.{sort_of, semicolon, mdl_word, module_word}
 use Rattle.expression_grammar.specs.inside.Machine.{other_literal}
-use Rattle.module_grammar.specs.inside.ModuleMachine.{State, on, within, Begun, the_module}
-use Rattle.module_grammar.specs.inside.ModuleMachine.{item_wanted, own_wanted, mdl_wanted}
-use Rattle.module_grammar.specs.inside.ModuleMachine.{version_wanted, version_read, other_version}
+use Rattle.module_grammar.specs.inside.ModuleStates.{State, on, within, Begun, the_module}
+use Rattle.module_grammar.specs.inside.ModuleStates.{item_wanted, own_wanted, mdl_wanted}
+use Rattle.module_grammar.specs.inside.ModuleStates.{version_wanted, version_read, other_version}
 use Rattle.expression_grammar.specs.inside.Sound.{IsMark, place}
 use Rattle.module_grammar.specs.inside.WroteModules.{ImportWrote, DeclarationWrote, EachWrote, no_other}
 use Rattle.module_grammar.specs.inside.WroteModules.{another, OwnWrote, no_own, own_tokens, WroteModule}

@@ -4,9 +4,9 @@ use Rattle.std.proofs.Common.{List, Some, if◌then◌else◌}
 use Rattle.std.specs.Prelude.{nat_le}
 use Rattle.std.proofs.lemmas.Bool.{cond-true, cond-false, false≢true, le-leb, leb-true}
 use Rattle.mdl_lexer.specs.declared.token.Token.{Token}
-use Rattle.module_grammar.specs.inside.ModuleMachine.{Begun, Position, State, Outcome, on, waits}
-use Rattle.module_grammar.specs.inside.ModuleMachine.{too_deep, leaves_out, other_version, mdl_wanted}
-use Rattle.module_grammar.specs.inside.ModuleMachine.{version_wanted, version_read, within}
+use Rattle.module_grammar.specs.inside.ModuleStates.{Begun, Position, State, Outcome, on, waits}
+use Rattle.module_grammar.specs.inside.ModuleStates.{too_deep, leaves_out, other_version, mdl_wanted}
+use Rattle.module_grammar.specs.inside.ModuleStates.{version_wanted, version_read, within}
 use Rattle.module_grammar.specs.inside.ModuleMachine.{module_step}
 use Rattle.module_grammar.proofs.ModuleSettledLaws.{is_settled, Settled}
 use Rattle.module_grammar.proofs.ModuleLimitedLaws.{Roomed, settled, above}

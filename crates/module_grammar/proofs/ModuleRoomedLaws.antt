@@ -8,22 +8,23 @@ use Rattle.mdl_syntax.specs.declared.expressions.Lit.TheVariants as lit
 use Rattle.expression_grammar.specs.inside.Machine.{Sort, sort_of, from_to, Mode, Frame, mode_step, finish}
 use Rattle.expression_grammar.specs.inside.Machine.{left_out, opening_bracket, closing_bracket, wanted}
 use Rattle.expression_grammar.specs.inside.Machine.{complete, mdl_word, other_literal}
-use Rattle.module_grammar.specs.inside.ModuleMachine.{Begun, Fronting, Holder, Site, Position, State}
-use Rattle.module_grammar.specs.inside.ModuleMachine.{Outcome, on, wrong, leaves_out, statement_body}
-use Rattle.module_grammar.specs.inside.ModuleMachine.{mdl_wanted, version_wanted, version_read, within}
-use Rattle.module_grammar.specs.inside.ModuleMachine.{item_wanted, importing, imported, using}
-use Rattle.module_grammar.specs.inside.ModuleMachine.{used_wanted, used_read, used_next, used_all}
-use Rattle.module_grammar.specs.inside.ModuleMachine.{own_wanted, annotations_begun, first_annotation}
-use Rattle.module_grammar.specs.inside.ModuleMachine.{annotation_read, annotations_closing, annotated}
-use Rattle.module_grammar.specs.inside.ModuleMachine.{exported_read, kin_named, annotation_named}
-use Rattle.module_grammar.specs.inside.ModuleMachine.{fronting, declared, parameters_begun, star_read}
-use Rattle.module_grammar.specs.inside.ModuleMachine.{variant_read, base_read, parameter_read}
-use Rattle.module_grammar.specs.inside.ModuleMachine.{parameter_next, function_read}
-use Rattle.module_grammar.specs.inside.ModuleMachine.{annotation_declared, struct_named, fields_read}
-use Rattle.module_grammar.specs.inside.ModuleMachine.{field_read, enum_named, value_wanted, value_read}
-use Rattle.module_grammar.specs.inside.ModuleMachine.{number_wanted, number_read, struct_closed}
-use Rattle.module_grammar.specs.inside.ModuleMachine.{enum_closed, expression, opened, of_parameter}
-use Rattle.module_grammar.specs.inside.ModuleMachine.{in_annotation, is_call_site, may_name, call_goes}
+use Rattle.module_grammar.specs.inside.ModuleStates.{Begun, Fronting, Holder, Site, Position, State}
+use Rattle.module_grammar.specs.inside.ModuleStates.{Outcome, on, wrong, leaves_out, statement_body}
+use Rattle.module_grammar.specs.inside.ModuleStates.{mdl_wanted, version_wanted, version_read, within}
+use Rattle.module_grammar.specs.inside.ModuleStates.{item_wanted, importing, imported, using}
+use Rattle.module_grammar.specs.inside.ModuleStates.{used_wanted, used_read, used_next, used_all}
+use Rattle.module_grammar.specs.inside.ModuleStates.{own_wanted, annotations_begun, first_annotation}
+use Rattle.module_grammar.specs.inside.ModuleStates.{annotation_read, annotations_closing, annotated}
+use Rattle.module_grammar.specs.inside.ModuleStates.{exported_read, kin_named, annotation_named}
+use Rattle.module_grammar.specs.inside.ModuleStates.{fronting, declared, parameters_begun, star_read}
+use Rattle.module_grammar.specs.inside.ModuleStates.{variant_read, base_read, parameter_read}
+use Rattle.module_grammar.specs.inside.ModuleStates.{parameter_next, function_read}
+use Rattle.module_grammar.specs.inside.ModuleStates.{annotation_declared, struct_named, fields_read}
+use Rattle.module_grammar.specs.inside.ModuleStates.{field_read, enum_named, value_wanted, value_read}
+use Rattle.module_grammar.specs.inside.ModuleStates.{number_wanted, number_read, struct_closed}
+use Rattle.module_grammar.specs.inside.ModuleStates.{enum_closed, expression, opened, of_parameter}
+use Rattle.module_grammar.specs.inside.ModuleMachine.{is_call_site, may_name, call_goes}
+use Rattle.module_grammar.specs.inside.ModuleStates.{in_annotation}
 use Rattle.module_grammar.specs.inside.ModuleMachine.{call_outcome, call_step, closes, by_finish}
 use Rattle.module_grammar.specs.inside.ModuleMachine.{expression_outcome, value_step_of}
 use Rattle.module_grammar.specs.inside.ModuleMachine.{expression_step, is_bracket, annotations_behind}

@@ -16,11 +16,12 @@ use Rattle.module_grammar.specs.ModuleFaults.{ModuleOpensTo, IsStatementBody}
 use Rattle.module_grammar.specs.ModuleFaults.{IsOtherVersion}
 use Rattle.module_grammar.specs.ModuleReadings.{HasModuleReading, a_module, IsFirst}
 use Rattle.expression_grammar.specs.Readings.{kinds}
-use Rattle.module_grammar.specs.inside.ModuleMachine.{Begun, Position, State, Outcome, on, waits}
-use Rattle.module_grammar.specs.inside.ModuleMachine.{wrong}
-use Rattle.module_grammar.specs.inside.ModuleMachine.{leaves_out, statement_body}
-use Rattle.module_grammar.specs.inside.ModuleMachine.{mdl_wanted, within, expression}
-use Rattle.module_grammar.specs.inside.ModuleMachine.{in_function_body, item_wanted, module_step}
+use Rattle.module_grammar.specs.inside.ModuleStates.{Begun, Position, State, Outcome, on, waits}
+use Rattle.module_grammar.specs.inside.ModuleStates.{wrong}
+use Rattle.module_grammar.specs.inside.ModuleStates.{leaves_out, statement_body}
+use Rattle.module_grammar.specs.inside.ModuleStates.{mdl_wanted, within, expression}
+use Rattle.module_grammar.specs.inside.ModuleMachine.{module_step}
+use Rattle.module_grammar.specs.inside.ModuleStates.{in_function_body, item_wanted}
 use Rattle.module_grammar.specs.inside.ModuleMachine.{module_taken, module_end, ModuleRun}
 use Rattle.module_grammar.specs.inside.ModuleMachine.{module_bad, run_module, waiting_place, place_or}
 use Rattle.module_grammar.specs.inside.ModuleMachine.{verdict_in, refused_here}

@@ -18,24 +18,27 @@ use Rattle.expression_grammar.specs.inside.Machine.{import_word, using_word, mod
 use Rattle.expression_grammar.specs.inside.Machine.{struct_word, enum_word, annotation_word, head_step}
 use Rattle.expression_grammar.specs.inside.Machine.{type_step, head_wanted, type_wanted, equals_wanted}
 use Rattle.expression_grammar.specs.inside.Machine.{is_deferred}
-use Rattle.module_grammar.specs.inside.ModuleMachine.{Begun, Naming, Named, Fronted, Front, Owner}
-use Rattle.module_grammar.specs.inside.ModuleMachine.{Fronting, Kin, Position, Outcome, on, waits}
-use Rattle.module_grammar.specs.inside.ModuleMachine.{wrong, mdl_wanted, version_wanted, version_read}
-use Rattle.module_grammar.specs.inside.ModuleMachine.{too_deep, leaves_out, statement_body}
-use Rattle.module_grammar.specs.inside.ModuleMachine.{other_version, within, unnamed, parted}
-use Rattle.module_grammar.specs.inside.ModuleMachine.{open_ended, importing, imported, using, used_all}
-use Rattle.module_grammar.specs.inside.ModuleMachine.{fronting, of_function, of_annotation}
-use Rattle.module_grammar.specs.inside.ModuleMachine.{of_declaration, of_parameter, of_field}
-use Rattle.module_grammar.specs.inside.ModuleMachine.{naming_or, naming_step, import_ends, import_item}
+use Rattle.module_grammar.specs.inside.ModuleStates.{Begun, Naming, Named, Fronted, Front, Owner}
+use Rattle.module_grammar.specs.inside.ModuleStates.{Fronting, Kin, Position, Outcome, on, waits}
+use Rattle.module_grammar.specs.inside.ModuleStates.{wrong, mdl_wanted, version_wanted, version_read}
+use Rattle.module_grammar.specs.inside.ModuleStates.{too_deep, leaves_out, statement_body}
+use Rattle.module_grammar.specs.inside.ModuleStates.{other_version, within, unnamed, parted}
+use Rattle.module_grammar.specs.inside.ModuleStates.{open_ended, importing, imported, using, used_all}
+use Rattle.module_grammar.specs.inside.ModuleStates.{fronting, of_function, of_annotation}
+use Rattle.module_grammar.specs.inside.ModuleStates.{of_declaration, of_parameter, of_field}
+use Rattle.module_grammar.specs.inside.ModuleMachine.{naming_or, import_ends, import_item}
+use Rattle.module_grammar.specs.inside.ModuleStates.{naming_step}
 use Rattle.module_grammar.specs.inside.ModuleMachine.{import_step, all_of, using_step}
 use Rattle.module_grammar.specs.inside.ModuleMachine.{used_wanted_step, used_read_step, used_next_step}
-use Rattle.module_grammar.specs.inside.ModuleMachine.{used_all_step, qualified_from, is_star}
+use Rattle.module_grammar.specs.inside.ModuleMachine.{used_all_step}
+use Rattle.module_grammar.specs.inside.ModuleStates.{qualified_from, is_star}
 use Rattle.module_grammar.specs.inside.ModuleMachine.{deferred_state, front_goes, front_outcome}
 use Rattle.module_grammar.specs.inside.ModuleMachine.{first_front_step, no_frequency, declaration_step}
 use Rattle.module_grammar.specs.inside.ModuleMachine.{item_step, exported_step, kin_step}
 use Rattle.module_grammar.specs.inside.ModuleMachine.{annotation_named_step, declared_step, star_step}
 use Rattle.module_grammar.specs.inside.ModuleMachine.{parameters_step, parameter_ends, parameter_step}
-use Rattle.module_grammar.specs.inside.ModuleMachine.{plain_parameter, version_ends}
+use Rattle.module_grammar.specs.inside.ModuleMachine.{version_ends}
+use Rattle.module_grammar.specs.inside.ModuleStates.{plain_parameter}
 use Rattle.expression_grammar.proofs.RoomLaws.{Limited, always, roomy, stays, mode_limited}
 
 -- what a step comes to where the limit plays no part. Inside a module it goes on inside

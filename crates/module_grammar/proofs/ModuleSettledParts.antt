@@ -7,10 +7,11 @@ use Rattle.mdl_syntax.specs.Modules.{Annotation, Parameter, EnumValue}
 use Rattle.expression_grammar.specs.inside.Machine.{Sort, identifier, integer, closing, opening_bracket}
 use Rattle.expression_grammar.specs.inside.Machine.{closing_bracket, opening_brace, closing_brace, comma}
 use Rattle.expression_grammar.specs.inside.Machine.{semicolon, equals, frequency_word}
-use Rattle.module_grammar.specs.inside.ModuleMachine.{Begun, Named, Fronted, Front, Struct, Enum}
-use Rattle.module_grammar.specs.inside.ModuleMachine.{Holder, of_field, the_module, a_parameter}
-use Rattle.module_grammar.specs.inside.ModuleMachine.{a_function, an_annotation, a_variant, a_struct}
-use Rattle.module_grammar.specs.inside.ModuleMachine.{a_field, an_enum, an_enum_value, star_read_step}
+use Rattle.module_grammar.specs.inside.ModuleStates.{Begun, Named, Fronted, Front, Struct, Enum}
+use Rattle.module_grammar.specs.inside.ModuleStates.{Holder, of_field, the_module, a_parameter}
+use Rattle.module_grammar.specs.inside.ModuleStates.{a_function, an_annotation, a_variant, a_struct}
+use Rattle.module_grammar.specs.inside.ModuleMachine.{star_read_step}
+use Rattle.module_grammar.specs.inside.ModuleStates.{a_field, an_enum, an_enum_value}
 use Rattle.module_grammar.specs.inside.ModuleMachine.{variant_annotated, variant_step, base_step}
 use Rattle.module_grammar.specs.inside.ModuleMachine.{function_annotated, function_step}
 use Rattle.module_grammar.specs.inside.ModuleMachine.{annotation_annotated, annotation_declared_step}
@@ -21,7 +22,7 @@ use Rattle.module_grammar.specs.inside.ModuleMachine.{value_wanted_step, value_e
 use Rattle.module_grammar.specs.inside.ModuleMachine.{number_step, number_read_step, enum_closed_step}
 use Rattle.module_grammar.specs.inside.ModuleMachine.{second_bracket, own_step, annotation_read_step}
 use Rattle.module_grammar.specs.inside.ModuleMachine.{closing_annotations, own_ends, annotated_step}
-use Rattle.module_grammar.specs.inside.ModuleMachine.{plain_parameter, parameter_from, enum_value_from}
+use Rattle.module_grammar.specs.inside.ModuleStates.{plain_parameter, parameter_from, enum_value_from}
 use Rattle.module_grammar.proofs.ModuleSettledLaws.{Settled, first_front_settled}
 use Rattle.module_grammar.proofs.ModuleSettledLaws.{parameter_ends_settled}
 

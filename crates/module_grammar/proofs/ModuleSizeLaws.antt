@@ -13,10 +13,11 @@ use Rattle.module_grammar.specs.ModuleFaults.{WritesModule, WritesAccepted, IsSt
 use Rattle.module_grammar.specs.ModuleFaults.{IsNamedFault, IsTooDeep, ModuleOpensTo}
 use Rattle.expression_grammar.specs.Readings.{kinds}
 use Rattle.expression_grammar.specs.inside.Sound.{IsMark}
-use Rattle.module_grammar.specs.inside.ModuleMachine.{Begun, Position, State, Outcome, on, mdl_wanted}
-use Rattle.module_grammar.specs.inside.ModuleMachine.{too_deep, within, fronting, expression}
-use Rattle.module_grammar.specs.inside.ModuleMachine.{of_parameter, of_function, of_annotation}
-use Rattle.module_grammar.specs.inside.ModuleMachine.{in_function_body, module_step, module_taken}
+use Rattle.module_grammar.specs.inside.ModuleStates.{Begun, Position, State, Outcome, on, mdl_wanted}
+use Rattle.module_grammar.specs.inside.ModuleStates.{too_deep, within, fronting, expression}
+use Rattle.module_grammar.specs.inside.ModuleStates.{of_parameter, of_function, of_annotation}
+use Rattle.module_grammar.specs.inside.ModuleMachine.{module_step, module_taken}
+use Rattle.module_grammar.specs.inside.ModuleStates.{in_function_body}
 use Rattle.module_grammar.specs.inside.ModuleLeads.{ModuleLeads, IsWholeAt, MayGoOn}
 use Rattle.module_grammar.specs.inside.ModuleHeads.{IsHead, size_in, SizeStands}
 use Rattle.expression_grammar.proofs.KindLaws.{kinds_append}

@@ -22,25 +22,26 @@ use Rattle.expression_grammar.specs.inside.Machine.{left_out}
 use Rattle.expression_grammar.specs.inside.Sorts.{IsOf}
 use Rattle.expression_grammar.specs.inside.Sound.{place}
 use Rattle.module_grammar.specs.inside.ModuleParts.{Part, Each}
-use Rattle.module_grammar.specs.inside.ModuleMachine.{Begun, Position, State, on}
-use Rattle.module_grammar.specs.inside.ModuleMachine.{mdl_wanted, version_wanted, version_read, within}
-use Rattle.module_grammar.specs.inside.ModuleMachine.{item_wanted, importing, imported, using}
-use Rattle.module_grammar.specs.inside.ModuleMachine.{used_wanted}
-use Rattle.module_grammar.specs.inside.ModuleMachine.{used_read, used_next, used_all, own_wanted}
-use Rattle.module_grammar.specs.inside.ModuleMachine.{annotations_begun, first_annotation}
-use Rattle.module_grammar.specs.inside.ModuleMachine.{annotation_read, annotations_closing, annotated}
-use Rattle.module_grammar.specs.inside.ModuleMachine.{exported_read, kin_named, annotation_named}
-use Rattle.module_grammar.specs.inside.ModuleMachine.{fronting}
-use Rattle.module_grammar.specs.inside.ModuleMachine.{declared, parameters_begun, star_read}
-use Rattle.module_grammar.specs.inside.ModuleMachine.{variant_read}
-use Rattle.module_grammar.specs.inside.ModuleMachine.{base_read, parameter_read, parameter_next}
-use Rattle.module_grammar.specs.inside.ModuleMachine.{function_read, annotation_declared, struct_named}
-use Rattle.module_grammar.specs.inside.ModuleMachine.{fields_read, field_read, enum_named}
-use Rattle.module_grammar.specs.inside.ModuleMachine.{value_wanted}
-use Rattle.module_grammar.specs.inside.ModuleMachine.{value_read, number_wanted, number_read}
-use Rattle.module_grammar.specs.inside.ModuleMachine.{struct_closed, enum_closed, expression, opened}
-use Rattle.module_grammar.specs.inside.ModuleMachine.{in_function_body, in_default, in_field_default}
-use Rattle.module_grammar.specs.inside.ModuleMachine.{in_annotation, in_base, position_step}
+use Rattle.module_grammar.specs.inside.ModuleStates.{Begun, Position, State, on}
+use Rattle.module_grammar.specs.inside.ModuleStates.{mdl_wanted, version_wanted, version_read, within}
+use Rattle.module_grammar.specs.inside.ModuleStates.{item_wanted, importing, imported, using}
+use Rattle.module_grammar.specs.inside.ModuleStates.{used_wanted}
+use Rattle.module_grammar.specs.inside.ModuleStates.{used_read, used_next, used_all, own_wanted}
+use Rattle.module_grammar.specs.inside.ModuleStates.{annotations_begun, first_annotation}
+use Rattle.module_grammar.specs.inside.ModuleStates.{annotation_read, annotations_closing, annotated}
+use Rattle.module_grammar.specs.inside.ModuleStates.{exported_read, kin_named, annotation_named}
+use Rattle.module_grammar.specs.inside.ModuleStates.{fronting}
+use Rattle.module_grammar.specs.inside.ModuleStates.{declared, parameters_begun, star_read}
+use Rattle.module_grammar.specs.inside.ModuleStates.{variant_read}
+use Rattle.module_grammar.specs.inside.ModuleStates.{base_read, parameter_read, parameter_next}
+use Rattle.module_grammar.specs.inside.ModuleStates.{function_read, annotation_declared, struct_named}
+use Rattle.module_grammar.specs.inside.ModuleStates.{fields_read, field_read, enum_named}
+use Rattle.module_grammar.specs.inside.ModuleStates.{value_wanted}
+use Rattle.module_grammar.specs.inside.ModuleStates.{value_read, number_wanted, number_read}
+use Rattle.module_grammar.specs.inside.ModuleStates.{struct_closed, enum_closed, expression, opened}
+use Rattle.module_grammar.specs.inside.ModuleStates.{in_function_body, in_default, in_field_default}
+use Rattle.module_grammar.specs.inside.ModuleMachine.{position_step}
+use Rattle.module_grammar.specs.inside.ModuleStates.{in_annotation, in_base}
 use Rattle.module_grammar.specs.inside.ModuleMachine.{state_step}
 use Rattle.module_grammar.specs.inside.ModuleMachine.{module_sort_step, module_step}
 use Rattle.module_grammar.specs.inside.ModuleHolds.{ModuleHolds, PositionHolds, EarlyAt}

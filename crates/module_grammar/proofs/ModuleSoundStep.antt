@@ -8,15 +8,18 @@ use Rattle.mdl_syntax.specs.WrittenModules.{write_module}
 use Rattle.mdl_syntax.specs.PlacedModules.{placed_module}
 use Rattle.expression_grammar.specs.Readings.{kinds}
 use Rattle.module_grammar.specs.inside.ModuleParts.{Part}
-use Rattle.module_grammar.specs.inside.ModuleMachine.{Begun, State, Outcome, on, wrong, too_deep}
-use Rattle.module_grammar.specs.inside.ModuleMachine.{leaves_out}
-use Rattle.module_grammar.specs.inside.ModuleMachine.{statement_body, other_version, mdl_wanted}
-use Rattle.module_grammar.specs.inside.ModuleMachine.{within}
-use Rattle.module_grammar.specs.inside.ModuleMachine.{item_wanted, module_step, module_taken}
+use Rattle.module_grammar.specs.inside.ModuleStates.{Begun, State, Outcome, on, wrong, too_deep}
+use Rattle.module_grammar.specs.inside.ModuleStates.{leaves_out}
+use Rattle.module_grammar.specs.inside.ModuleStates.{statement_body, other_version, mdl_wanted}
+use Rattle.module_grammar.specs.inside.ModuleStates.{within}
+use Rattle.module_grammar.specs.inside.ModuleMachine.{module_step, module_taken}
+use Rattle.module_grammar.specs.inside.ModuleStates.{item_wanted}
 use Rattle.module_grammar.specs.inside.ModuleMachine.{permitted}
-use Rattle.module_grammar.specs.inside.ModuleMachine.{permitted_state, judged, verdict_in, waits}
+use Rattle.module_grammar.specs.inside.ModuleMachine.{permitted_state, judged, verdict_in}
+use Rattle.module_grammar.specs.inside.ModuleStates.{waits}
 use Rattle.module_grammar.specs.inside.ModuleMachine.{Verdict, passes, refused_here, refused_before}
-use Rattle.module_grammar.specs.inside.ModuleMachine.{undecided, version_read}
+use Rattle.module_grammar.specs.inside.ModuleMachine.{undecided}
+use Rattle.module_grammar.specs.inside.ModuleStates.{version_read}
 use Rattle.mdl_syntax.specs.declared.modules.VersionLit.{VersionLit}
 use Rattle.mdl_syntax.specs.AcceptedModules.{is_version}
 use Rattle.module_grammar.specs.inside.ModuleMachine.{ModuleRun, module_read, module_end}

@@ -3,9 +3,12 @@ use Rattle.std.proofs.Common.{◌≡◌, refl, ℕ, Some, None, List, [], ◌∷
 use Rattle.mdl_syntax.specs.declared.names.Ident.{Ident}
 use Rattle.expression_grammar.specs.declared.sort.Sort as words
 use Rattle.expression_grammar.specs.declared.sort.Sort.TheVariants as sort
-use Rattle.module_grammar.specs.inside.ModuleMachine.{Begun, Enum, value_step, number_read_step, value_ends}
-use Rattle.module_grammar.specs.inside.ModuleMachine.{enum_value_from, Fronted, variant_step, variant_annotated}
-use Rattle.module_grammar.specs.inside.ModuleMachine.{Owner, Front, parameter_step, parameter_ends, plain_parameter}
+use Rattle.module_grammar.specs.inside.ModuleMachine.{value_step, number_read_step, value_ends}
+use Rattle.module_grammar.specs.inside.ModuleStates.{Begun, Enum}
+use Rattle.module_grammar.specs.inside.ModuleMachine.{variant_step, variant_annotated}
+use Rattle.module_grammar.specs.inside.ModuleStates.{enum_value_from, Fronted}
+use Rattle.module_grammar.specs.inside.ModuleMachine.{parameter_step, parameter_ends}
+use Rattle.module_grammar.specs.inside.ModuleStates.{Owner, Front, plain_parameter}
 use Rattle.mdl_syntax.specs.Modules.{Parameter, parameter_of, declaration_of}
 use Rattle.mdl_syntax.specs.declared.declarations.Decl.{Decl}
 use Rattle.mdl_syntax.specs.declared.declarations.Param.{Param}

@@ -11,10 +11,11 @@ use Rattle.mdl_syntax.specs.AcceptedModules.{is_version}
 use Rattle.expression_grammar.specs.inside.Sorts.{IsOf}
 use Rattle.expression_grammar.specs.inside.Machine.{Sort, sort_of, from_to, left_out, other_literal}
 use Rattle.expression_grammar.specs.inside.Machine.{mdl_word, semicolon}
-use Rattle.module_grammar.specs.inside.ModuleMachine.{Begun, Position, State, Outcome, on, waits}
-use Rattle.module_grammar.specs.inside.ModuleMachine.{wrong, too_deep, leaves_out, statement_body}
-use Rattle.module_grammar.specs.inside.ModuleMachine.{other_version, mdl_wanted, version_wanted}
-use Rattle.module_grammar.specs.inside.ModuleMachine.{version_read, within, Verdict, passes}
+use Rattle.module_grammar.specs.inside.ModuleStates.{Begun, Position, State, Outcome, on, waits}
+use Rattle.module_grammar.specs.inside.ModuleStates.{wrong, too_deep, leaves_out, statement_body}
+use Rattle.module_grammar.specs.inside.ModuleStates.{other_version, mdl_wanted, version_wanted}
+use Rattle.module_grammar.specs.inside.ModuleMachine.{Verdict, passes}
+use Rattle.module_grammar.specs.inside.ModuleStates.{version_read, within}
 use Rattle.module_grammar.specs.inside.ModuleMachine.{refused_here, refused_before, undecided}
 use Rattle.module_grammar.specs.inside.ModuleMachine.{verdict_in, judged, permitted_state, permitted}
 use Rattle.module_grammar.specs.inside.ModuleMachine.{module_taken, module_step, module_sort_step}

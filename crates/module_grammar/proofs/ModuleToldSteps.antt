@@ -16,20 +16,22 @@ use Rattle.expression_grammar.specs.inside.Machine.{finish}
 use Rattle.expression_grammar.specs.inside.Machine.{goes, bad, deep, is_left_out, finished, ends_badly}
 use Rattle.expression_grammar.specs.inside.Machine.{ends_deep, semicolon, equals, wanted, complete}
 use Rattle.expression_grammar.specs.inside.Machine.{equals_wanted, deferred_wanted, opening_bracket}
-use Rattle.module_grammar.specs.inside.ModuleMachine.{Begun, Position, Outcome, Site, Fronting}
-use Rattle.module_grammar.specs.inside.ModuleMachine.{Holder, Naming, on, wrong}
-use Rattle.module_grammar.specs.inside.ModuleMachine.{within, item_wanted, importing, using}
-use Rattle.module_grammar.specs.inside.ModuleMachine.{annotated, fronting, function_read, base_read}
-use Rattle.module_grammar.specs.inside.ModuleMachine.{annotation_declared, struct_closed, enum_closed}
-use Rattle.module_grammar.specs.inside.ModuleMachine.{expression, opened, in_function_body, in_default}
-use Rattle.module_grammar.specs.inside.ModuleMachine.{in_field_default, in_annotation, in_base}
-use Rattle.module_grammar.specs.inside.ModuleMachine.{of_declaration, of_parameter, of_field}
-use Rattle.module_grammar.specs.inside.ModuleMachine.{the_module, a_function, an_annotation}
-use Rattle.module_grammar.specs.inside.ModuleMachine.{unnamed, parted, qualified_from, import_item}
+use Rattle.module_grammar.specs.inside.ModuleStates.{Begun, Position, Outcome, Site, Fronting}
+use Rattle.module_grammar.specs.inside.ModuleStates.{Holder, Naming, on, wrong}
+use Rattle.module_grammar.specs.inside.ModuleStates.{within, item_wanted, importing, using}
+use Rattle.module_grammar.specs.inside.ModuleStates.{annotated, fronting, function_read, base_read}
+use Rattle.module_grammar.specs.inside.ModuleStates.{annotation_declared, struct_closed, enum_closed}
+use Rattle.module_grammar.specs.inside.ModuleStates.{expression, opened, in_function_body, in_default}
+use Rattle.module_grammar.specs.inside.ModuleStates.{in_field_default, in_annotation, in_base}
+use Rattle.module_grammar.specs.inside.ModuleStates.{of_declaration, of_parameter, of_field}
+use Rattle.module_grammar.specs.inside.ModuleStates.{the_module, a_function, an_annotation}
+use Rattle.module_grammar.specs.inside.ModuleMachine.{import_item}
+use Rattle.module_grammar.specs.inside.ModuleStates.{unnamed, parted, qualified_from}
 use Rattle.module_grammar.specs.inside.ModuleMachine.{import_step, using_step, position_step}
 use Rattle.module_grammar.specs.inside.ModuleMachine.{expression_outcome, call_outcome, call_step}
 use Rattle.module_grammar.specs.inside.ModuleMachine.{call_goes, may_name, by_finish, index_outcome}
-use Rattle.module_grammar.specs.inside.ModuleMachine.{Fronted, Front, Struct, is_call_site}
+use Rattle.module_grammar.specs.inside.ModuleMachine.{is_call_site}
+use Rattle.module_grammar.specs.inside.ModuleStates.{Fronted, Front, Struct}
 use Rattle.module_grammar.specs.inside.ModuleMachine.{annotated_step, expression_step}
 use Rattle.module_grammar.specs.inside.ModuleMachine.{unless_wrong, front_outcome, front_goes}
 use Rattle.module_grammar.specs.inside.ModuleMachine.{deferred_state, named_state}

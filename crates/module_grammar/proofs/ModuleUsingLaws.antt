@@ -21,11 +21,13 @@ use Rattle.expression_grammar.specs.inside.Machine.{semicolon, equals, import_wo
 use Rattle.expression_grammar.specs.inside.Sorts.{IsOf}
 use Rattle.expression_grammar.specs.inside.Sound.{place}
 use Rattle.module_grammar.specs.inside.ModuleParts.{Part}
-use Rattle.module_grammar.specs.inside.ModuleMachine.{Begun, Naming, unnamed, parted}
-use Rattle.module_grammar.specs.inside.ModuleMachine.{using, used_wanted, used_read, used_next}
-use Rattle.module_grammar.specs.inside.ModuleMachine.{used_all}
-use Rattle.module_grammar.specs.inside.ModuleMachine.{within, naming_or, naming_step, using_step}
-use Rattle.module_grammar.specs.inside.ModuleMachine.{with_import, used_ends, module_name, on}
+use Rattle.module_grammar.specs.inside.ModuleStates.{Begun, Naming, unnamed, parted}
+use Rattle.module_grammar.specs.inside.ModuleStates.{using, used_wanted, used_read, used_next}
+use Rattle.module_grammar.specs.inside.ModuleStates.{used_all}
+use Rattle.module_grammar.specs.inside.ModuleMachine.{naming_or, using_step}
+use Rattle.module_grammar.specs.inside.ModuleStates.{within, naming_step}
+use Rattle.module_grammar.specs.inside.ModuleMachine.{used_ends}
+use Rattle.module_grammar.specs.inside.ModuleStates.{with_import, module_name, on}
 use Rattle.module_grammar.specs.inside.ModuleMachine.{used_wanted_step, used_read_step, used_next_step}
 use Rattle.module_grammar.specs.inside.ModuleMachine.{used_all_step}
 use Rattle.module_grammar.specs.inside.ModuleHolds.{PositionHolds, BegunStands, Early, AtLeastOne}

@@ -14,16 +14,17 @@ use Rattle.expression_grammar.specs.inside.Machine.{wanted}
 use Rattle.expression_grammar.specs.inside.Machine.{semicolon, opening_bracket}
 use Rattle.expression_grammar.specs.inside.Sorts.{IsOf}
 use Rattle.expression_grammar.specs.inside.Sound.{place}
-use Rattle.module_grammar.specs.inside.ModuleMachine.{Begun, Front, Site, in_function_body, in_default}
-use Rattle.module_grammar.specs.inside.ModuleMachine.{in_field_default, in_annotation, in_base, on}
-use Rattle.module_grammar.specs.inside.ModuleMachine.{within}
-use Rattle.module_grammar.specs.inside.ModuleMachine.{wrong, too_deep, leaves_out, statement_body, waits}
-use Rattle.module_grammar.specs.inside.ModuleMachine.{other_version, Outcome, expression, opened}
+use Rattle.module_grammar.specs.inside.ModuleStates.{Begun, Front, Site, in_function_body, in_default}
+use Rattle.module_grammar.specs.inside.ModuleStates.{in_field_default, in_annotation, in_base, on}
+use Rattle.module_grammar.specs.inside.ModuleStates.{within}
+use Rattle.module_grammar.specs.inside.ModuleStates.{wrong, too_deep, leaves_out, statement_body, waits}
+use Rattle.module_grammar.specs.inside.ModuleStates.{other_version, Outcome, expression, opened}
 use Rattle.module_grammar.specs.inside.ModuleMachine.{expression_outcome, closes, closed_by}
 use Rattle.module_grammar.specs.inside.ModuleMachine.{closing_outcome, by_finish, value_step_of}
 use Rattle.module_grammar.specs.inside.ModuleMachine.{holder_of, annotations_behind, unless_wrong}
-use Rattle.module_grammar.specs.inside.ModuleMachine.{index_outcome, opened_step, first_annotation}
-use Rattle.module_grammar.specs.inside.ModuleMachine.{plain_parameter, function_from}
+use Rattle.module_grammar.specs.inside.ModuleMachine.{index_outcome, opened_step}
+use Rattle.module_grammar.specs.inside.ModuleStates.{first_annotation}
+use Rattle.module_grammar.specs.inside.ModuleStates.{plain_parameter, function_from}
 use Rattle.module_grammar.specs.inside.ModuleHolds.{BegunStands, Then}
 use Rattle.module_grammar.specs.inside.ModuleHolds.{SiteHolds, SiteOpened, IsDefault}
 use Rattle.module_grammar.specs.inside.ModuleHolds.{HoldsBehind, ValueBehind, FrontStands}

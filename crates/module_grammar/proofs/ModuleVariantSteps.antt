@@ -8,11 +8,12 @@ use Rattle.mdl_syntax.specs.Modules.{Annotation}
 use Rattle.expression_grammar.specs.inside.Machine.{Mode, Frame, Step, Sort, mode_step, sort_of, from_to}
 use Rattle.expression_grammar.specs.inside.Machine.{goes, bad, deep, is_left_out, complete, semicolon}
 use Rattle.expression_grammar.specs.inside.Machine.{comma, closing_bracket, equals, left_out}
-use Rattle.module_grammar.specs.inside.ModuleMachine.{Begun, State, Outcome, Site, Fronted}
-use Rattle.module_grammar.specs.inside.ModuleMachine.{on, wrong, within, expression, in_annotation}
-use Rattle.module_grammar.specs.inside.ModuleMachine.{function_read, a_function}
-use Rattle.module_grammar.specs.inside.ModuleMachine.{in_base, base_read, annotation_read, a_variant}
-use Rattle.module_grammar.specs.inside.ModuleMachine.{annotations_closing, annotated, call_goes}
+use Rattle.module_grammar.specs.inside.ModuleStates.{Begun, State, Outcome, Site, Fronted}
+use Rattle.module_grammar.specs.inside.ModuleStates.{on, wrong, within, expression, in_annotation}
+use Rattle.module_grammar.specs.inside.ModuleStates.{function_read, a_function}
+use Rattle.module_grammar.specs.inside.ModuleStates.{in_base, base_read, annotation_read, a_variant}
+use Rattle.module_grammar.specs.inside.ModuleMachine.{call_goes}
+use Rattle.module_grammar.specs.inside.ModuleStates.{annotations_closing, annotated}
 use Rattle.module_grammar.specs.inside.ModuleMachine.{call_outcome, call_step, may_name, base_step}
 use Rattle.module_grammar.specs.inside.ModuleMachine.{annotation_read_step, closing_annotations}
 use Rattle.module_grammar.specs.inside.ModuleMachine.{variant_annotated, module_sort_step, module_step}

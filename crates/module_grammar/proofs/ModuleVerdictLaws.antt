@@ -10,21 +10,23 @@ use Rattle.mdl_syntax.specs.Modules.{Annotation, Parameter}
 use Rattle.expression_grammar.specs.inside.Sound.{Holds, IsMark}
 use Rattle.expression_grammar.specs.inside.Machine.{Mode, Frame, Head, is_deferred, wanted}
 use Rattle.expression_grammar.specs.inside.Machine.{deferred_wanted}
-use Rattle.module_grammar.specs.inside.ModuleMachine.{Begun, Position, State, Site, Fronted, within}
+use Rattle.module_grammar.specs.inside.ModuleStates.{Begun, Position, State, Site, Fronted, within}
 use Rattle.module_grammar.specs.inside.ModuleMachine.{Verdict, passes, refused_here, refused_before}
 use Rattle.module_grammar.specs.inside.ModuleMachine.{undecided, verdict_in, before_body, if_deferred}
-use Rattle.module_grammar.specs.inside.ModuleMachine.{behind_parameter, fronting, expression, opened}
-use Rattle.module_grammar.specs.inside.ModuleMachine.{of_parameter, of_declaration, of_field}
-use Rattle.module_grammar.specs.inside.ModuleMachine.{of_function}
-use Rattle.module_grammar.specs.inside.ModuleMachine.{of_annotation, in_function_body, in_default}
-use Rattle.module_grammar.specs.inside.ModuleMachine.{in_field_default, in_annotation, in_base}
-use Rattle.module_grammar.specs.inside.ModuleMachine.{a_parameter, a_function, a_variant, kin_named}
-use Rattle.module_grammar.specs.inside.ModuleMachine.{an_annotation, parameters_begun}
-use Rattle.module_grammar.specs.inside.ModuleMachine.{annotation_named, annotation_declared, Holder}
-use Rattle.module_grammar.specs.inside.ModuleMachine.{parameter_read, parameter_next}
-use Rattle.module_grammar.specs.inside.ModuleMachine.{annotations_begun}
-use Rattle.module_grammar.specs.inside.ModuleMachine.{first_annotation, annotation_read, annotated}
-use Rattle.module_grammar.specs.inside.ModuleMachine.{annotations_closing, Owner, deferred_of_site}
+use Rattle.module_grammar.specs.inside.ModuleMachine.{behind_parameter}
+use Rattle.module_grammar.specs.inside.ModuleStates.{fronting, expression, opened}
+use Rattle.module_grammar.specs.inside.ModuleStates.{of_parameter, of_declaration, of_field}
+use Rattle.module_grammar.specs.inside.ModuleStates.{of_function}
+use Rattle.module_grammar.specs.inside.ModuleStates.{of_annotation, in_function_body, in_default}
+use Rattle.module_grammar.specs.inside.ModuleStates.{in_field_default, in_annotation, in_base}
+use Rattle.module_grammar.specs.inside.ModuleStates.{a_parameter, a_function, a_variant, kin_named}
+use Rattle.module_grammar.specs.inside.ModuleStates.{an_annotation, parameters_begun}
+use Rattle.module_grammar.specs.inside.ModuleStates.{annotation_named, annotation_declared, Holder}
+use Rattle.module_grammar.specs.inside.ModuleStates.{parameter_read, parameter_next}
+use Rattle.module_grammar.specs.inside.ModuleStates.{annotations_begun}
+use Rattle.module_grammar.specs.inside.ModuleStates.{first_annotation, annotation_read, annotated}
+use Rattle.module_grammar.specs.inside.ModuleMachine.{deferred_of_site}
+use Rattle.module_grammar.specs.inside.ModuleStates.{annotations_closing, Owner}
 use Rattle.module_grammar.specs.inside.ModuleHeads.{size_in, deferred_of, fronted_of_owner}
 use Rattle.module_grammar.specs.inside.ModuleHeads.{fronted_of_holder, fronted_of_site}
 use Rattle.module_grammar.specs.inside.ModuleHolds.{ModuleHolds, SiteHolds}

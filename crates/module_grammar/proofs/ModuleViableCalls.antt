@@ -19,9 +19,10 @@ use Rattle.expression_grammar.specs.inside.Machine.{deep}
 use Rattle.expression_grammar.specs.inside.Machine.{in_arguments, indexed_tree, reduced, whole}
 use Rattle.expression_grammar.specs.inside.Machine.{unless_bad_end, finish, finished}
 use Rattle.expression_grammar.specs.inside.Machine.{is_deferred, name_tree, path_name}
-use Rattle.module_grammar.specs.inside.ModuleMachine.{Begun, Site, on, within, expression}
-use Rattle.module_grammar.specs.inside.ModuleMachine.{in_function_body, in_default, in_field_default}
-use Rattle.module_grammar.specs.inside.ModuleMachine.{in_annotation, in_base, is_call_site}
+use Rattle.module_grammar.specs.inside.ModuleStates.{Begun, Site, on, within, expression}
+use Rattle.module_grammar.specs.inside.ModuleStates.{in_function_body, in_default, in_field_default}
+use Rattle.module_grammar.specs.inside.ModuleMachine.{is_call_site}
+use Rattle.module_grammar.specs.inside.ModuleStates.{in_annotation, in_base}
 use Rattle.module_grammar.specs.inside.ModuleMachine.{state_step, value_step_of, call_step, call_read}
 use Rattle.module_grammar.specs.inside.ModuleMachine.{call_goes, call_outcome, permitted_state}
 use Rattle.module_grammar.specs.inside.ModuleFits.{OnCall, StandsInCall}

@@ -20,16 +20,19 @@ use Rattle.expression_grammar.specs.inside.Machine.{type_sized, deferred_wanted,
 use Rattle.expression_grammar.specs.inside.Machine.{deferred_closed, name_wanted, equals_wanted}
 use Rattle.expression_grammar.specs.inside.Machine.{double_colon, identifier, dot, import_word}
 use Rattle.expression_grammar.specs.inside.Machine.{binary_operator}
-use Rattle.module_grammar.specs.inside.ModuleMachine.{State, Begun, Fronting, Owner, on, within}
-use Rattle.module_grammar.specs.inside.ModuleMachine.{state_step, permitted_state, fronting}
-use Rattle.module_grammar.specs.inside.ModuleMachine.{of_declaration, of_parameter, of_field}
-use Rattle.module_grammar.specs.inside.ModuleMachine.{named_state, exported_read, parameter_next}
-use Rattle.module_grammar.specs.inside.ModuleMachine.{Naming, unnamed, one_dot, two_dots, up_steps}
-use Rattle.module_grammar.specs.inside.ModuleMachine.{one_dot_behind, parted, open_ended, importing}
-use Rattle.module_grammar.specs.inside.ModuleMachine.{imported, using, used_wanted, used_read}
-use Rattle.module_grammar.specs.inside.ModuleMachine.{used_next, used_all, module_name, using_step}
-use Rattle.module_grammar.specs.inside.ModuleMachine.{mdl_wanted, version_wanted, version_read}
-use Rattle.module_grammar.specs.inside.ModuleMachine as machine
+use Rattle.module_grammar.specs.inside.ModuleStates.{State, Begun, Fronting, Owner, on, within}
+use Rattle.module_grammar.specs.inside.ModuleMachine.{state_step, permitted_state}
+use Rattle.module_grammar.specs.inside.ModuleStates.{fronting}
+use Rattle.module_grammar.specs.inside.ModuleStates.{of_declaration, of_parameter, of_field}
+use Rattle.module_grammar.specs.inside.ModuleMachine.{named_state}
+use Rattle.module_grammar.specs.inside.ModuleStates.{exported_read, parameter_next}
+use Rattle.module_grammar.specs.inside.ModuleStates.{Naming, unnamed, one_dot, two_dots, up_steps}
+use Rattle.module_grammar.specs.inside.ModuleStates.{one_dot_behind, parted, open_ended, importing}
+use Rattle.module_grammar.specs.inside.ModuleStates.{imported, using, used_wanted, used_read}
+use Rattle.module_grammar.specs.inside.ModuleMachine.{using_step}
+use Rattle.module_grammar.specs.inside.ModuleStates.{used_next, used_all, module_name}
+use Rattle.module_grammar.specs.inside.ModuleStates.{mdl_wanted, version_wanted, version_read}
+use Rattle.module_grammar.specs.inside.ModuleStates as states
 use Rattle.module_grammar.specs.inside.ModuleFits.{IsTypeMode}
 use Rattle.expression_grammar.specs.inside.Sound.{place}
 use Rattle.module_grammar.proofs.ModuleReadsParts.{IsKept, by_sort}
@@ -181,9 +184,9 @@ dots_viable state namer rest steps from =
 
 led_viable : {strict : Bool} {limit : ℕ} (state : Naming → State) → Namer limit state →
     PartedViable strict limit state → (own : Lead) (from : ℕ) →
-    ModuleViable strict limit (state (machine.led own from))
+    ModuleViable strict limit (state (states.led own from))
 led_viable state namer rest own from =
-    named_on state namer (machine.led own from) _ name_token (identifier (codes "x")) refl tt
+    named_on state namer (states.led own from) _ name_token (identifier (codes "x")) refl tt
     (led_word own from (codes "x") (place name_token)) (rest _ _ _ _)
 
 naming_viable : {strict : Bool} {limit : ℕ} (state : Naming → State) → Namer limit state →
@@ -192,7 +195,7 @@ naming_viable state namer rest unnamed =
     named_on state namer unnamed _ name_token (identifier (codes "x")) refl tt
     (word_first (codes "x") (place name_token)) (rest _ _ _ _)
 naming_viable state namer rest (one_dot at) =
-    named_on state namer (one_dot at) (machine.led lead.Here at) (mark (codes "::")) double_colon
+    named_on state namer (one_dot at) (states.led lead.Here at) (mark (codes "::")) double_colon
     refl tt (here_colons at (place (mark (codes "::"))))
     (led_viable state namer rest lead.Here at)
 naming_viable state namer rest (two_dots steps at) = dots_viable state namer rest steps at
@@ -200,7 +203,7 @@ naming_viable state namer rest (up_steps steps at) = steps_viable state namer re
 naming_viable state namer rest (one_dot_behind steps at) =
     named_on state namer (one_dot_behind steps at) (two_dots steps at) (mark (codes ".")) dot refl
     tt (behind_dot steps at (place (mark (codes ".")))) (dots_viable state namer rest steps at)
-naming_viable state namer rest (machine.led own at) = led_viable state namer rest own at
+naming_viable state namer rest (states.led own at) = led_viable state namer rest own at
 naming_viable state namer rest (parted own at parts end) = rest own at parts end
 naming_viable state namer rest (open_ended own at parts end) =
     named_on state namer (open_ended own at parts end) _ name_token (identifier (codes "x")) refl

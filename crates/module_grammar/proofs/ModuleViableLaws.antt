@@ -7,26 +7,27 @@ use Rattle.mdl_syntax.specs.declared.names.Span.{Span}
 use Rattle.mdl_syntax.specs.Trees.{Tree}
 use Rattle.mdl_syntax.specs.Modules.{Annotation, ModuleTree}
 use Rattle.expression_grammar.specs.inside.Machine.{Mode, Frame, finish, finished, wanted}
-use Rattle.module_grammar.specs.inside.ModuleMachine.{State, Begun, Holder, Fronted, Site, Position}
-use Rattle.module_grammar.specs.inside.ModuleMachine.{within, the_module, a_parameter}
-use Rattle.module_grammar.specs.inside.ModuleMachine.{a_function, an_annotation, a_variant, a_struct}
-use Rattle.module_grammar.specs.inside.ModuleMachine.{a_field, an_enum, an_enum_value}
-use Rattle.module_grammar.specs.inside.ModuleMachine.{in_function_body, in_default, in_field_default}
-use Rattle.module_grammar.specs.inside.ModuleMachine.{in_annotation, in_base}
-use Rattle.module_grammar.specs.inside.ModuleMachine.{annotations_behind, holder_of, parameter_from}
-use Rattle.module_grammar.specs.inside.ModuleMachine.{item_wanted, importing, imported, using}
-use Rattle.module_grammar.specs.inside.ModuleMachine.{used_wanted, used_read, used_next, used_all}
-use Rattle.module_grammar.specs.inside.ModuleMachine.{own_wanted, annotations_begun, first_annotation}
-use Rattle.module_grammar.specs.inside.ModuleMachine.{annotation_read, annotations_closing, annotated}
-use Rattle.module_grammar.specs.inside.ModuleMachine.{exported_read, kin_named, annotation_named}
-use Rattle.module_grammar.specs.inside.ModuleMachine.{fronting, declared, parameters_begun, star_read}
-use Rattle.module_grammar.specs.inside.ModuleMachine.{variant_read, base_read, parameter_read}
-use Rattle.module_grammar.specs.inside.ModuleMachine.{parameter_next, function_read}
-use Rattle.module_grammar.specs.inside.ModuleMachine.{annotation_declared, struct_named, fields_read}
-use Rattle.module_grammar.specs.inside.ModuleMachine.{field_read, enum_named, value_wanted, value_read}
-use Rattle.module_grammar.specs.inside.ModuleMachine.{number_wanted, number_read, struct_closed}
-use Rattle.module_grammar.specs.inside.ModuleMachine.{enum_closed, expression, opened, mdl_wanted}
-use Rattle.module_grammar.specs.inside.ModuleMachine.{version_wanted, version_read}
+use Rattle.module_grammar.specs.inside.ModuleStates.{State, Begun, Holder, Fronted, Site, Position}
+use Rattle.module_grammar.specs.inside.ModuleStates.{within, the_module, a_parameter}
+use Rattle.module_grammar.specs.inside.ModuleStates.{a_function, an_annotation, a_variant, a_struct}
+use Rattle.module_grammar.specs.inside.ModuleStates.{a_field, an_enum, an_enum_value}
+use Rattle.module_grammar.specs.inside.ModuleStates.{in_function_body, in_default, in_field_default}
+use Rattle.module_grammar.specs.inside.ModuleStates.{in_annotation, in_base}
+use Rattle.module_grammar.specs.inside.ModuleMachine.{annotations_behind, holder_of}
+use Rattle.module_grammar.specs.inside.ModuleStates.{parameter_from}
+use Rattle.module_grammar.specs.inside.ModuleStates.{item_wanted, importing, imported, using}
+use Rattle.module_grammar.specs.inside.ModuleStates.{used_wanted, used_read, used_next, used_all}
+use Rattle.module_grammar.specs.inside.ModuleStates.{own_wanted, annotations_begun, first_annotation}
+use Rattle.module_grammar.specs.inside.ModuleStates.{annotation_read, annotations_closing, annotated}
+use Rattle.module_grammar.specs.inside.ModuleStates.{exported_read, kin_named, annotation_named}
+use Rattle.module_grammar.specs.inside.ModuleStates.{fronting, declared, parameters_begun, star_read}
+use Rattle.module_grammar.specs.inside.ModuleStates.{variant_read, base_read, parameter_read}
+use Rattle.module_grammar.specs.inside.ModuleStates.{parameter_next, function_read}
+use Rattle.module_grammar.specs.inside.ModuleStates.{annotation_declared, struct_named, fields_read}
+use Rattle.module_grammar.specs.inside.ModuleStates.{field_read, enum_named, value_wanted, value_read}
+use Rattle.module_grammar.specs.inside.ModuleStates.{number_wanted, number_read, struct_closed}
+use Rattle.module_grammar.specs.inside.ModuleStates.{enum_closed, expression, opened, mdl_wanted}
+use Rattle.module_grammar.specs.inside.ModuleStates.{version_wanted, version_read}
 use Rattle.module_grammar.specs.inside.ModuleFits.{ModuleFits, PositionFits}
 use Rattle.module_grammar.specs.inside.ModuleLeads.{MayGoOn, ModuleEnds}
 use Rattle.module_grammar.proofs.ModuleViableParts.{ModuleViable, whole_end, led, semicolon_mark}

@@ -5,17 +5,20 @@ use Rattle.mdl_lexer.specs.declared.token.Token.{Token}
 use Rattle.mdl_syntax.specs.declared.names.Ident.{Ident}
 use Rattle.mdl_syntax.specs.declared.types.Freq.{Freq}
 use Rattle.mdl_syntax.specs.Modules.{Annotation, Parameter}
-use Rattle.module_grammar.specs.inside.ModuleMachine.{State, Begun, Named, Fronted, Front, Owner}
-use Rattle.module_grammar.specs.inside.ModuleMachine.{Struct, Enum, Kin, on, within, module_step, permitted}
-use Rattle.module_grammar.specs.inside.ModuleMachine.{permitted_state, of_function, of_annotation}
-use Rattle.module_grammar.specs.inside.ModuleMachine.{struct_kin, enum_kin, annotation_kin}
-use Rattle.module_grammar.specs.inside.ModuleMachine.{item_wanted, parameters_state, kin_named}
-use Rattle.module_grammar.specs.inside.ModuleMachine.{annotation_named, declared, parameters_begun}
-use Rattle.module_grammar.specs.inside.ModuleMachine.{base_read, parameter_read, function_read}
-use Rattle.module_grammar.specs.inside.ModuleMachine.{annotation_declared, struct_named, fields_read}
-use Rattle.module_grammar.specs.inside.ModuleMachine.{field_read, enum_named, value_wanted, value_read}
-use Rattle.module_grammar.specs.inside.ModuleMachine.{number_wanted, number_read, struct_closed}
-use Rattle.module_grammar.specs.inside.ModuleMachine.{enum_closed, plain_parameter}
+use Rattle.module_grammar.specs.inside.ModuleStates.{State, Begun, Named, Fronted, Front, Owner}
+use Rattle.module_grammar.specs.inside.ModuleMachine.{module_step, permitted}
+use Rattle.module_grammar.specs.inside.ModuleStates.{Struct, Enum, Kin, on, within}
+use Rattle.module_grammar.specs.inside.ModuleMachine.{permitted_state}
+use Rattle.module_grammar.specs.inside.ModuleStates.{of_function, of_annotation}
+use Rattle.module_grammar.specs.inside.ModuleStates.{struct_kin, enum_kin, annotation_kin}
+use Rattle.module_grammar.specs.inside.ModuleMachine.{parameters_state}
+use Rattle.module_grammar.specs.inside.ModuleStates.{item_wanted, kin_named}
+use Rattle.module_grammar.specs.inside.ModuleStates.{annotation_named, declared, parameters_begun}
+use Rattle.module_grammar.specs.inside.ModuleStates.{base_read, parameter_read, function_read}
+use Rattle.module_grammar.specs.inside.ModuleStates.{annotation_declared, struct_named, fields_read}
+use Rattle.module_grammar.specs.inside.ModuleStates.{field_read, enum_named, value_wanted, value_read}
+use Rattle.module_grammar.specs.inside.ModuleStates.{number_wanted, number_read, struct_closed}
+use Rattle.module_grammar.specs.inside.ModuleStates.{enum_closed, plain_parameter}
 use Rattle.module_grammar.specs.inside.ModuleLeads.{next}
 use Rattle.module_grammar.proofs.ModuleReadsParts.{Way, stay}
 use Rattle.expression_grammar.proofs.ShutLaws.{mark, zero_token, name_token}

@@ -19,16 +19,19 @@ use Rattle.expression_grammar.specs.inside.Machine.{unless_bad_end, complete_ste
 use Rattle.expression_grammar.specs.inside.Machine.{finish, finished, ends_badly, ends_deep, is_deferred}
 use Rattle.expression_grammar.specs.inside.Machine.{allowed, taken, semicolon, closing}
 use Rattle.expression_grammar.specs.inside.Machine.{name_tree, path_name}
-use Rattle.module_grammar.specs.inside.ModuleMachine.{State, Begun, Site, Verdict, on, within}
-use Rattle.module_grammar.specs.inside.ModuleMachine.{expression, in_function_body, in_default}
-use Rattle.module_grammar.specs.inside.ModuleMachine.{in_field_default}
-use Rattle.module_grammar.specs.inside.ModuleMachine.{in_annotation, in_base, is_call_site, closes}
+use Rattle.module_grammar.specs.inside.ModuleMachine.{Verdict}
+use Rattle.module_grammar.specs.inside.ModuleStates.{State, Begun, Site, on, within}
+use Rattle.module_grammar.specs.inside.ModuleStates.{expression, in_function_body, in_default}
+use Rattle.module_grammar.specs.inside.ModuleStates.{in_field_default}
+use Rattle.module_grammar.specs.inside.ModuleMachine.{is_call_site, closes}
+use Rattle.module_grammar.specs.inside.ModuleStates.{in_annotation, in_base}
 use Rattle.module_grammar.specs.inside.ModuleMachine.{state_step, module_sort_step}
 use Rattle.module_grammar.specs.inside.ModuleMachine.{by_finish, value_step_of, expression_outcome}
-use Rattle.module_grammar.specs.inside.ModuleMachine.{Fronted, Front, Owner, Struct}
+use Rattle.module_grammar.specs.inside.ModuleStates.{Fronted, Front, Owner, Struct}
 use Rattle.module_grammar.specs.inside.ModuleMachine.{call_step, permitted_state, judged, before_body}
 use Rattle.module_grammar.specs.inside.ModuleMachine.{behind_parameter, deferred_of_site}
-use Rattle.module_grammar.specs.inside.ModuleMachine.{passes, plain_parameter}
+use Rattle.module_grammar.specs.inside.ModuleMachine.{passes}
+use Rattle.module_grammar.specs.inside.ModuleStates.{plain_parameter}
 use Rattle.expression_grammar.specs.inside.Sound.{place}
 use Rattle.expression_grammar.proofs.TakenLaws.{taken_goes}
 use Rattle.module_grammar.proofs.ModuleReadsParts.{IsKept}

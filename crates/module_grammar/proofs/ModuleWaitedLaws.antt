@@ -5,8 +5,8 @@ use Rattle.mdl_lexer.specs.declared.token.Token.{Token}
 use Rattle.mdl_syntax.specs.declared.types.Freq.{Freq}
 use Rattle.mdl_syntax.specs.Modules.{Annotation, Parameter}
 use Rattle.expression_grammar.specs.inside.Machine.{Mode, Frame}
-use Rattle.module_grammar.specs.inside.ModuleMachine.{Begun, Fronted, State, Outcome, on, within}
-use Rattle.module_grammar.specs.inside.ModuleMachine.{item_wanted, expression, in_function_body}
+use Rattle.module_grammar.specs.inside.ModuleStates.{Begun, Fronted, State, Outcome, on, within}
+use Rattle.module_grammar.specs.inside.ModuleStates.{item_wanted, expression, in_function_body}
 use Rattle.module_grammar.specs.inside.ModuleMachine.{module_step, module_taken, place_or, over_at}
 use Rattle.module_grammar.specs.inside.ModuleMachine.{ends_waiting, step_from, waiting_place}
 use Rattle.module_grammar.proofs.ModuleLeadsLaws.{state_in}

@@ -14,8 +14,8 @@ use Rattle.module_grammar.specs.ModuleFaults.{WritesModule, ModuleOpens, ModuleO
 use Rattle.module_grammar.specs.ModuleFaults.{IsNamedFault}
 use Rattle.expression_grammar.specs.Readings.{kinds}
 use Rattle.expression_grammar.specs.inside.Machine.{wanted}
-use Rattle.module_grammar.specs.inside.ModuleMachine.{State, on, mdl_wanted, within}
-use Rattle.module_grammar.specs.inside.ModuleMachine.{item_wanted, expression, in_function_body}
+use Rattle.module_grammar.specs.inside.ModuleStates.{State, on, mdl_wanted, within}
+use Rattle.module_grammar.specs.inside.ModuleStates.{item_wanted, expression, in_function_body}
 use Rattle.module_grammar.specs.inside.ModuleMachine.{module_step, module_taken}
 use Rattle.module_grammar.specs.inside.ModuleLeads.{ModuleLeads, here, next}
 use Rattle.module_grammar.specs.inside.ModuleHeads.{IsItem}

@@ -20,7 +20,7 @@ use Rattle.expression_grammar.specs.Readings.{kinds}
 use Rattle.expression_grammar.specs.inside.Machine.{from_to}
 use Rattle.expression_grammar.specs.inside.Stands.{TypeStands}
 use Rattle.module_grammar.specs.inside.ModuleParts.{Part, Each, First}
-use Rattle.module_grammar.specs.inside.ModuleMachine.{Named, Fronted}
+use Rattle.module_grammar.specs.inside.ModuleStates.{Named, Fronted}
 use Rattle.module_grammar.specs.inside.ModuleHolds.{Word, Annotated, ValueStands, ParametersStand}
 use Rattle.module_grammar.specs.inside.ModuleHolds.{ValuesStand}
 use Rattle.expression_grammar.proofs.KindLaws.{kinds_append, behind_front}

@@ -22,7 +22,7 @@ use Rattle.mdl_syntax.specs.PlacedModules.{placed_each, placed_module_name, plac
 use Rattle.mdl_syntax.specs.PlacedModules.{placed_used, placed_import}
 use Rattle.mdl_syntax.specs.LevelledModules.{IsLead, IsModuleName, IsImport}
 use Rattle.expression_grammar.specs.inside.Machine.{from_to, ident_at}
-use Rattle.module_grammar.specs.inside.ModuleMachine.{module_name}
+use Rattle.module_grammar.specs.inside.ModuleStates.{module_name}
 use Rattle.expression_grammar.specs.Readings.{kinds}
 use Rattle.expression_grammar.specs.inside.Sound.{place}
 use Rattle.module_grammar.specs.inside.WroteModules.{UpWrote, one_up, more_up, LeadWrote, bare_lead}

@@ -32,7 +32,7 @@ use Rattle.mdl_syntax.specs.LevelledModules.{IsMaterialToo, IsModule}
 use Rattle.mdl_syntax.specs.AcceptedModules.{PlainDeclaration, PlainParameter, LooseParameter}
 use Rattle.mdl_syntax.specs.AcceptedModules.{PlainAnnotations}
 use Rattle.expression_grammar.specs.inside.Machine.{from_to}
-use Rattle.module_grammar.specs.inside.ModuleMachine.{is_material_form, is_one}
+use Rattle.module_grammar.specs.inside.ModuleStates.{is_material_form, is_one}
 use Rattle.expression_grammar.specs.Readings.{kinds}
 use Rattle.module_grammar.specs.inside.WroteModules.{DeclarationWrote, ImportWrote, OwnWrote, no_own}
 use Rattle.module_grammar.specs.inside.WroteModules.{own_tokens, WroteModule, module_tokens}

@@ -91,8 +91,8 @@ pub record IsStraySize (words : List Kind) (at : ℕ) : Type 0 where
   pub size : IsDeferredSizeIn WritesModule words at
   pub none : (most : ℕ) → OpensIn WritesAccepted (take (suc at) words) most → ⊥
 
--- `<` begins the size of a type in the head of a function, and the function's body begins behind it, at `=`. Up to there
--- nothing is too deep
+-- `<` begins the size of a type in the head of a function, and the function's body begins behind it, at `=`. Up to
+-- there nothing is too deep
 pub record IsSizeOfHead (most : ℕ) (words : List Kind) (at : ℕ) : Type 0 where
   pub size : IsDeferredSizeIn WritesModule words at
   pub equals : ℕ

@@ -1,3 +1,4 @@
+pub mod ModuleStates
 pub mod ModuleMachine
 pub mod ModuleRows
 pub mod ModuleLeads

@@ -49,9 +49,11 @@ use Rattle.expression_grammar.specs.declared.mode.Stop.{Stop}
 use Rattle.expression_grammar.specs.declared.mode.Stop.TheVariants as inner
 use Rattle.mdl_grammar.specs.declared.module_state.ModuleStop.{ModuleStop}
 use Rattle.mdl_grammar.specs.declared.module_state.ModuleStop.TheVariants as stop
-use Rattle.module_grammar.specs.inside.ModuleMachine.{Begun, Naming, Named, Fronted, Front, Owner, Struct, Enum}
-use Rattle.module_grammar.specs.inside.ModuleMachine.{Holder, Site, Fronting, Kin, Position, Outcome, Verdict}
+use Rattle.module_grammar.specs.inside.ModuleStates.{Begun, Naming, Named, Fronted, Front, Owner, Struct, Enum}
+use Rattle.module_grammar.specs.inside.ModuleMachine.{Verdict}
+use Rattle.module_grammar.specs.inside.ModuleStates.{Holder, Site, Fronting, Kin, Position, Outcome}
 use Rattle.module_grammar.specs.inside.ModuleMachine as machine
+use Rattle.module_grammar.specs.inside.ModuleStates as states
 use Rattle.expression_grammar.specs.inside.Views.{mode_of, stack_of}
 
 abbrev pub begun_of : held_begun.Begun → Begun
@@ -65,14 +67,14 @@ begun_of begun = record {
 }
 
 abbrev pub naming_of : held_namings.Naming → Naming
-naming_of held_naming.Unnamed = machine.unnamed
-naming_of (held_naming.OneDot at) = machine.one_dot at
-naming_of (held_naming.TwoDots steps at) = machine.two_dots steps at
-naming_of (held_naming.UpSteps steps at) = machine.up_steps steps at
-naming_of (held_naming.OneDotBehind steps at) = machine.one_dot_behind steps at
-naming_of (held_naming.Led lead at) = machine.led lead at
-naming_of (held_naming.Parted lead at parts end) = machine.parted lead at parts.items end
-naming_of (held_naming.OpenEnded lead at parts end) = machine.open_ended lead at parts.items end
+naming_of held_naming.Unnamed = states.unnamed
+naming_of (held_naming.OneDot at) = states.one_dot at
+naming_of (held_naming.TwoDots steps at) = states.two_dots steps at
+naming_of (held_naming.UpSteps steps at) = states.up_steps steps at
+naming_of (held_naming.OneDotBehind steps at) = states.one_dot_behind steps at
+naming_of (held_naming.Led lead at) = states.led lead at
+naming_of (held_naming.Parted lead at parts end) = states.parted lead at parts.items end
+naming_of (held_naming.OpenEnded lead at parts end) = states.open_ended lead at parts.items end
 
 abbrev pub named_of : held_named.Named → Named
 named_of named = record { at = named.at; exported = named.exported; name = named.name }
@@ -84,8 +86,8 @@ abbrev pub front_of : held_front.Front → Front
 front_of front = record { at = front.at; frequency = front.frequency; ty = front.ty; name = front.name }
 
 abbrev pub owner_of : held_owners.Owner → Owner
-owner_of (held_owner.Function fronted) = machine.of_function (fronted_of fronted.value)
-owner_of (held_owner.Annotation named) = machine.of_annotation (named_of named)
+owner_of (held_owner.Function fronted) = states.of_function (fronted_of fronted.value)
+owner_of (held_owner.Annotation named) = states.of_annotation (named_of named)
 
 abbrev pub struct_of : held_struct.StructSoFar → Struct
 struct_of held = record {
@@ -102,112 +104,114 @@ enum_of held = record {
 }
 
 abbrev pub holder_of : held_holders.Holder → Holder
-holder_of held_holder.Module = machine.the_module
+holder_of held_holder.Module = states.the_module
 holder_of (held_holder.Parameter owner parameters front default) =
-    machine.a_parameter (owner_of owner) (map parameter_of parameters.items) (front_of front.value) (default_of default)
+    states.a_parameter (owner_of owner) (map parameter_of parameters.items) (front_of front.value) (default_of default)
 holder_of (held_holder.Function fronted parameters frequency) =
-    machine.a_function (fronted_of fronted.value) (map parameter_of parameters.items) frequency
+    states.a_function (fronted_of fronted.value) (map parameter_of parameters.items) frequency
 holder_of (held_holder.Annotation named parameters) =
-    machine.an_annotation (named_of named) (map parameter_of parameters.items)
-holder_of (held_holder.Variant fronted) = machine.a_variant (fronted_of fronted.value)
-holder_of (held_holder.Struct named) = machine.a_struct (named_of named)
+    states.an_annotation (named_of named) (map parameter_of parameters.items)
+holder_of (held_holder.Variant fronted) = states.a_variant (fronted_of fronted.value)
+holder_of (held_holder.Struct named) = states.a_struct (named_of named)
 holder_of (held_holder.Field held front default) =
-    machine.a_field (struct_of held) (front_of front.value) (default_of default)
-holder_of (held_holder.Enum named) = machine.an_enum (named_of named)
-holder_of (held_holder.EnumValue held name number) = machine.an_enum_value (enum_of held) name number
+    states.a_field (struct_of held) (front_of front.value) (default_of default)
+holder_of (held_holder.Enum named) = states.an_enum (named_of named)
+holder_of (held_holder.EnumValue held name number) = states.an_enum_value (enum_of held) name number
 
 abbrev pub site_of : held_sites.Site → Site
 site_of (held_site.FunctionBody fronted parameters frequency annotations) =
-    machine.in_function_body (fronted_of fronted.value) (map parameter_of parameters.items) frequency
+    states.in_function_body (fronted_of fronted.value) (map parameter_of parameters.items) frequency
     (annotations_of annotations)
 site_of (held_site.Default owner parameters front) =
-    machine.in_default (owner_of owner) (map parameter_of parameters.items) (front_of front.value)
-site_of (held_site.FieldDefault held front) = machine.in_field_default (struct_of held) (front_of front.value)
+    states.in_default (owner_of owner) (map parameter_of parameters.items) (front_of front.value)
+site_of (held_site.FieldDefault held front) = states.in_field_default (struct_of held) (front_of front.value)
 site_of (held_site.Annotation holder annotations) =
-    machine.in_annotation (holder_of holder.value) (map annotation_of annotations.items)
-site_of (held_site.Base fronted annotations) = machine.in_base (fronted_of fronted.value) (annotations_of annotations)
+    states.in_annotation (holder_of holder.value) (map annotation_of annotations.items)
+site_of (held_site.Base fronted annotations) = states.in_base (fronted_of fronted.value) (annotations_of annotations)
 
 abbrev pub fronting_of : held_frontings.Fronting → Fronting
-fronting_of (held_fronting.Declaration at exported) = machine.of_declaration at exported
+fronting_of (held_fronting.Declaration at exported) = states.of_declaration at exported
 fronting_of (held_fronting.Parameter owner parameters) =
-    machine.of_parameter (owner_of owner) (map parameter_of parameters.items)
-fronting_of (held_fronting.Field held) = machine.of_field (struct_of held)
+    states.of_parameter (owner_of owner) (map parameter_of parameters.items)
+fronting_of (held_fronting.Field held) = states.of_field (struct_of held)
 
 abbrev pub kin_of : held_kins.Kin → Kin
-kin_of held_kin.Struct = machine.struct_kin
-kin_of held_kin.Enum = machine.enum_kin
-kin_of held_kin.Annotation = machine.annotation_kin
+kin_of held_kin.Struct = states.struct_kin
+kin_of held_kin.Enum = states.enum_kin
+kin_of held_kin.Annotation = states.annotation_kin
 
 abbrev pub import_position_of : held_import_positions.ImportPosition → Position
-import_position_of (held_import_position.Importing at items naming) = machine.importing at items.items (naming_of naming)
-import_position_of (held_import_position.Imported at items) = machine.imported at items.items
-import_position_of (held_import_position.Using at naming) = machine.using at (naming_of naming)
-import_position_of (held_import_position.UsedWanted at name) = machine.used_wanted at name
-import_position_of (held_import_position.UsedRead at name names) = machine.used_read at name names.items
-import_position_of (held_import_position.UsedNext at name names) = machine.used_next at name names.items
-import_position_of (held_import_position.UsedAll at name) = machine.used_all at name
+import_position_of (held_import_position.Importing at items naming) = states.importing at items.items (naming_of naming)
+import_position_of (held_import_position.Imported at items) = states.imported at items.items
+import_position_of (held_import_position.Using at naming) = states.using at (naming_of naming)
+import_position_of (held_import_position.UsedWanted at name) = states.used_wanted at name
+import_position_of (held_import_position.UsedRead at name names) = states.used_read at name names.items
+import_position_of (held_import_position.UsedNext at name names) = states.used_next at name names.items
+import_position_of (held_import_position.UsedAll at name) = states.used_all at name
 
 abbrev pub annotation_position_of : held_annotation_positions.AnnotationPosition → Position
-annotation_position_of held_annotation_position.OwnWanted = machine.own_wanted
-annotation_position_of (held_annotation_position.AnnotationsBegun holder) = machine.annotations_begun (holder_of holder.value)
-annotation_position_of (held_annotation_position.FirstAnnotation holder) = machine.first_annotation (holder_of holder.value)
+annotation_position_of held_annotation_position.OwnWanted = states.own_wanted
+annotation_position_of (held_annotation_position.AnnotationsBegun holder) =
+    states.annotations_begun (holder_of holder.value)
+annotation_position_of (held_annotation_position.FirstAnnotation holder) =
+    states.first_annotation (holder_of holder.value)
 annotation_position_of (held_annotation_position.AnnotationRead holder annotations) =
-    machine.annotation_read (holder_of holder.value) (map annotation_of annotations.items)
+    states.annotation_read (holder_of holder.value) (map annotation_of annotations.items)
 annotation_position_of (held_annotation_position.AnnotationsClosing holder annotations) =
-    machine.annotations_closing (holder_of holder.value) (map annotation_of annotations.items)
+    states.annotations_closing (holder_of holder.value) (map annotation_of annotations.items)
 annotation_position_of (held_annotation_position.Annotated holder annotations end) =
-    machine.annotated (holder_of holder.value) (map annotation_of annotations.items) end
+    states.annotated (holder_of holder.value) (map annotation_of annotations.items) end
 
 abbrev pub function_position_of : held_function_positions.FunctionPosition → Position
-function_position_of (held_function_position.ExportedRead at) = machine.exported_read at
-function_position_of (held_function_position.KinNamed at exported kin) = machine.kin_named at exported (kin_of kin)
-function_position_of (held_function_position.AnnotationNamed named) = machine.annotation_named (named_of named)
-function_position_of (held_function_position.Declared fronted) = machine.declared (fronted_of fronted.value)
-function_position_of (held_function_position.ParametersBegun owner) = machine.parameters_begun (owner_of owner)
-function_position_of (held_function_position.StarRead fronted) = machine.star_read (fronted_of fronted.value)
-function_position_of (held_function_position.VariantRead fronted) = machine.variant_read (fronted_of fronted.value)
+function_position_of (held_function_position.ExportedRead at) = states.exported_read at
+function_position_of (held_function_position.KinNamed at exported kin) = states.kin_named at exported (kin_of kin)
+function_position_of (held_function_position.AnnotationNamed named) = states.annotation_named (named_of named)
+function_position_of (held_function_position.Declared fronted) = states.declared (fronted_of fronted.value)
+function_position_of (held_function_position.ParametersBegun owner) = states.parameters_begun (owner_of owner)
+function_position_of (held_function_position.StarRead fronted) = states.star_read (fronted_of fronted.value)
+function_position_of (held_function_position.VariantRead fronted) = states.variant_read (fronted_of fronted.value)
 function_position_of (held_function_position.BaseRead fronted annotations base) =
-    machine.base_read (fronted_of fronted.value) (annotations_of annotations) (annotation_of base)
+    states.base_read (fronted_of fronted.value) (annotations_of annotations) (annotation_of base)
 function_position_of (held_function_position.ParameterRead owner parameters front) =
-    machine.parameter_read (owner_of owner) (map parameter_of parameters.items) (front_of front.value)
+    states.parameter_read (owner_of owner) (map parameter_of parameters.items) (front_of front.value)
 function_position_of (held_function_position.ParameterNext owner parameters) =
-    machine.parameter_next (owner_of owner) (map parameter_of parameters.items)
+    states.parameter_next (owner_of owner) (map parameter_of parameters.items)
 function_position_of (held_function_position.FunctionRead fronted parameters frequency) =
-    machine.function_read (fronted_of fronted.value) (map parameter_of parameters.items) frequency
+    states.function_read (fronted_of fronted.value) (map parameter_of parameters.items) frequency
 function_position_of (held_function_position.AnnotationDeclared named parameters) =
-    machine.annotation_declared (named_of named) (map parameter_of parameters.items)
+    states.annotation_declared (named_of named) (map parameter_of parameters.items)
 
 abbrev pub type_position_of : held_type_positions.TypePosition → Position
-type_position_of (held_type_position.StructNamed named) = machine.struct_named (named_of named)
-type_position_of (held_type_position.FieldsRead held) = machine.fields_read (struct_of held)
-type_position_of (held_type_position.FieldRead held front) = machine.field_read (struct_of held) (front_of front.value)
-type_position_of (held_type_position.EnumNamed named) = machine.enum_named (named_of named)
-type_position_of (held_type_position.ValueWanted held) = machine.value_wanted (enum_of held)
-type_position_of (held_type_position.ValueRead held name) = machine.value_read (enum_of held) name
-type_position_of (held_type_position.NumberWanted held name) = machine.number_wanted (enum_of held) name
-type_position_of (held_type_position.NumberRead held name value end) = machine.number_read (enum_of held) name value end
-type_position_of (held_type_position.StructClosed held) = machine.struct_closed (struct_of held)
-type_position_of (held_type_position.EnumClosed held) = machine.enum_closed (enum_of held)
+type_position_of (held_type_position.StructNamed named) = states.struct_named (named_of named)
+type_position_of (held_type_position.FieldsRead held) = states.fields_read (struct_of held)
+type_position_of (held_type_position.FieldRead held front) = states.field_read (struct_of held) (front_of front.value)
+type_position_of (held_type_position.EnumNamed named) = states.enum_named (named_of named)
+type_position_of (held_type_position.ValueWanted held) = states.value_wanted (enum_of held)
+type_position_of (held_type_position.ValueRead held name) = states.value_read (enum_of held) name
+type_position_of (held_type_position.NumberWanted held name) = states.number_wanted (enum_of held) name
+type_position_of (held_type_position.NumberRead held name value end) = states.number_read (enum_of held) name value end
+type_position_of (held_type_position.StructClosed held) = states.struct_closed (struct_of held)
+type_position_of (held_type_position.EnumClosed held) = states.enum_closed (enum_of held)
 
 abbrev pub position_of : held_positions.Position → Position
-position_of (held_position.ItemWanted early) = machine.item_wanted early
+position_of (held_position.ItemWanted early) = states.item_wanted early
 position_of (held_position.Import position) = import_position_of position
 position_of (held_position.Annotation position) = annotation_position_of position
 position_of (held_position.Function position) = function_position_of position
 position_of (held_position.Type position) = type_position_of position
-position_of (held_position.Fronting of mode) = machine.fronting (fronting_of of.value) (mode_of mode)
+position_of (held_position.Fronting of mode) = states.fronting (fronting_of of.value) (mode_of mode)
 position_of (held_position.Expression site mode frames) =
-    machine.expression (site_of site.value) (mode_of mode) (stack_of frames.items)
+    states.expression (site_of site.value) (mode_of mode) (stack_of frames.items)
 position_of (held_position.Opened site mode frames bracket) =
-    machine.opened (site_of site.value) (mode_of mode) (stack_of frames.items) bracket
+    states.opened (site_of site.value) (mode_of mode) (stack_of frames.items) bracket
 
 -- a step gave what the machine's step gives, or there was no memory
 abbrev pub ModuleCame : Result held_positions.Position ModuleStop → held_begun.Begun → Outcome → Type 0
-ModuleCame (Ok position) begun made = made ≡ machine.on (machine.within (begun_of begun) (position_of position))
-ModuleCame (Err stop.Bad) begun made = made ≡ machine.wrong
-ModuleCame (Err stop.Deep) begun made = made ≡ machine.too_deep
-ModuleCame (Err (stop.LeftOut word)) begun made = made ≡ machine.leaves_out None word
-ModuleCame (Err stop.StatementBody) begun made = made ≡ machine.statement_body
+ModuleCame (Ok position) begun made = made ≡ states.on (states.within (begun_of begun) (position_of position))
+ModuleCame (Err stop.Bad) begun made = made ≡ states.wrong
+ModuleCame (Err stop.Deep) begun made = made ≡ states.too_deep
+ModuleCame (Err (stop.LeftOut word)) begun made = made ≡ states.leaves_out None word
+ModuleCame (Err stop.StatementBody) begun made = made ≡ states.statement_body
 ModuleCame (Err stop.OutOfMemory) begun made = ⊤
 
 -- a token made of a name what the machine makes of it
@@ -223,29 +227,29 @@ NamingCame (Err refused) made = refused ≡ stop.OutOfMemory
 
 -- what a name stands for, and with `*` behind it
 abbrev pub item_of : Naming → Option Qualified
-item_of (machine.parted lead at parts end) = machine.qualified_from lead at parts end
+item_of (states.parted lead at parts end) = states.qualified_from lead at parts end
 item_of _ = None
 
 abbrev pub all_item_of : Naming → ℕ → Option Qualified
-all_item_of (machine.open_ended lead at parts end) star = Some (machine.all_of lead at parts end star)
+all_item_of (states.open_ended lead at parts end) star = Some (machine.all_of lead at parts end star)
 all_item_of _ star = None
 
 abbrev pub imports_all : Begun → ℕ → List Qualified → Option Qualified → Outcome
-imports_all begun at items None = machine.wrong
-imports_all begun at items (Some item) = machine.on (machine.within begun (machine.imported at (items ++ item ∷ [])))
+imports_all begun at items None = states.wrong
+imports_all begun at items (Some item) = states.on (states.within begun (states.imported at (items ++ item ∷ [])))
 
 abbrev pub imports_text : List Qualified → Naming → Outcome
-imports_text [] machine.unnamed = machine.leaves_out None (codes "string-name")
-imports_text items naming = machine.wrong
+imports_text [] states.unnamed = states.leaves_out None (codes "string-name")
+imports_text items naming = states.wrong
 
 abbrev pub imports_on : Begun → ℕ → List Qualified → Naming → Sort → Span → Outcome
 imports_on begun at items naming sort place =
-    machine.naming_or (λ next. machine.within begun (machine.importing at items next))
-    (machine.naming_step naming sort place)
+    machine.naming_or (λ next. states.within begun (states.importing at items next))
+    (states.naming_step naming sort place)
 
 abbrev pub imports_operator : Begun → ℕ → List Qualified → Naming → ℕ → Span → Outcome
 imports_operator begun at items naming op place =
-    if machine.is_star op then imports_all begun at items (all_item_of naming place.end) else machine.wrong
+    if states.is_star op then imports_all begun at items (all_item_of naming place.end) else states.wrong
 
 abbrev pub imports_by : Begun → ℕ → List Qualified → Naming → Sort → Span → Outcome
 imports_by begun at items naming comma place =
@@ -259,38 +263,38 @@ imports_by begun at items naming sort place = imports_on begun at items naming s
 -- Uses, by the token that comes.
 
 abbrev pub uses_text : Naming → Outcome
-uses_text machine.unnamed = machine.leaves_out None (codes "string-name")
-uses_text naming = machine.wrong
+uses_text states.unnamed = states.leaves_out None (codes "string-name")
+uses_text naming = states.wrong
 
 abbrev pub uses_equals : Naming → Outcome
-uses_equals (machine.parted lead.Bare from (part ∷ []) end) = machine.leaves_out None (codes "alias")
-uses_equals naming = machine.wrong
+uses_equals (states.parted lead.Bare from (part ∷ []) end) = states.leaves_out None (codes "alias")
+uses_equals naming = states.wrong
 
 abbrev pub uses_import : Begun → ℕ → Naming → Outcome
-uses_import begun at (machine.parted lead from parts end) =
-    machine.on (machine.within begun (machine.used_wanted at (machine.module_name lead from parts end)))
-uses_import begun at naming = machine.wrong
+uses_import begun at (states.parted lead from parts end) =
+    states.on (states.within begun (states.used_wanted at (states.module_name lead from parts end)))
+uses_import begun at naming = states.wrong
 
 abbrev pub uses_on : Begun → ℕ → Naming → Sort → Span → Outcome
 uses_on begun at naming sort place =
-    machine.naming_or (λ next. machine.within begun (machine.using at next)) (machine.naming_step naming sort place)
+    machine.naming_or (λ next. states.within begun (states.using at next)) (states.naming_step naming sort place)
 
 -- Fronts.
 
 abbrev pub deferred_fronting : ℕ → Fronting → Fronting
-deferred_fronting at (machine.of_parameter owner parameters) =
-    machine.of_parameter (machine.deferred_owner owner at) parameters
+deferred_fronting at (states.of_parameter owner parameters) =
+    states.of_parameter (machine.deferred_owner owner at) parameters
 deferred_fronting at of = of
 
 -- Declarations, but for the words that come before them.
 
 abbrev pub late_item : ℕ → Begun → Sort → Span → Outcome
-late_item token begun export_word place = machine.on (machine.within begun (machine.exported_read place.at))
+late_item token begun export_word place = states.on (states.within begun (states.exported_read place.at))
 late_item token begun sort place = machine.declaration_step token begun place.at false sort place
 
 abbrev pub unmarked : Begun → Fronted → List Parameter → Option Freq → Sort → Span → Outcome
 unmarked begun fronted parameters frequency opening_bracket place =
-    machine.on (machine.within begun (machine.annotations_begun (machine.a_function fronted parameters frequency)))
+    states.on (states.within begun (states.annotations_begun (states.a_function fronted parameters frequency)))
 unmarked begun fronted parameters frequency sort place =
     machine.function_annotated begun fronted parameters frequency None sort place
 

@@ -5,9 +5,11 @@ use Rattle.expression_grammar.specs.declared.fault.ParseFault.TheVariants as fau
 use Rattle.mdl_syntax.specs.declared.modules.Module.{Module}
 use Rattle.mdl_syntax.specs.Modules.{module_of}
 use Rattle.module_grammar.specs.inside.ModuleMachine.{ModuleRun, module_read, module_bad, module_deep, module_left_out}
-use Rattle.module_grammar.specs.inside.ModuleMachine.{module_statement, module_version, State, Outcome, Position}
-use Rattle.module_grammar.specs.inside.ModuleMachine.{on, within}
-use Rattle.module_grammar.specs.inside.ModuleMachine.{item_wanted, run_module_from, outcome_after, place_behind}
+use Rattle.module_grammar.specs.inside.ModuleMachine.{module_statement, module_version}
+use Rattle.module_grammar.specs.inside.ModuleStates.{State, Outcome, Position}
+use Rattle.module_grammar.specs.inside.ModuleStates.{on, within}
+use Rattle.module_grammar.specs.inside.ModuleMachine.{run_module_from, outcome_after, place_behind}
+use Rattle.module_grammar.specs.inside.ModuleStates.{item_wanted}
 use Rattle.mdl_grammar.specs.inside.ModuleViews.{begun_of, position_of}
 use Rattle.mdl_grammar.specs.declared.module_state.Begun as held_begun
 use Rattle.mdl_grammar.specs.declared.module_state.Position as held_positions

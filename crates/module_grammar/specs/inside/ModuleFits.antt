@@ -15,25 +15,26 @@ use Rattle.expression_grammar.specs.inside.Machine.{Mode, Frame, finish, finishe
 use Rattle.expression_grammar.specs.inside.Machine.{part_wanted, part_read, word_read, type_wanted, type_bracketed}
 use Rattle.expression_grammar.specs.inside.Machine.{type_sized, deferred_wanted, deferred_read, deferred_closed}
 use Rattle.expression_grammar.specs.inside.Machine.{name_wanted, equals_wanted, wanted, in_arguments}
-use Rattle.module_grammar.specs.inside.ModuleMachine.{Naming, Begun, Fronted, Front, Owner, Struct, Enum, Holder}
-use Rattle.module_grammar.specs.inside.ModuleMachine.{Site, Fronting, Position, State, room_of, is_call_site}
-use Rattle.module_grammar.specs.inside.ModuleMachine.{up_steps, led}
-use Rattle.module_grammar.specs.inside.ModuleMachine.{parted, open_ended, of_function, of_annotation, the_module}
-use Rattle.module_grammar.specs.inside.ModuleMachine.{a_parameter, a_function, an_annotation, a_variant, a_struct}
-use Rattle.module_grammar.specs.inside.ModuleMachine.{a_field, an_enum, an_enum_value, in_function_body}
-use Rattle.module_grammar.specs.inside.ModuleMachine.{in_default, in_field_default, in_annotation, in_base}
-use Rattle.module_grammar.specs.inside.ModuleMachine.{of_declaration, of_parameter, of_field, item_wanted}
-use Rattle.module_grammar.specs.inside.ModuleMachine.{importing, imported, using, used_wanted, used_read}
-use Rattle.module_grammar.specs.inside.ModuleMachine.{used_next, used_all, own_wanted, annotations_begun}
-use Rattle.module_grammar.specs.inside.ModuleMachine.{first_annotation, annotation_read, annotations_closing}
-use Rattle.module_grammar.specs.inside.ModuleMachine.{annotated, exported_read, kin_named, annotation_named}
-use Rattle.module_grammar.specs.inside.ModuleMachine.{fronting, declared, parameters_begun, star_read}
-use Rattle.module_grammar.specs.inside.ModuleMachine.{variant_read, base_read, parameter_read, parameter_next}
-use Rattle.module_grammar.specs.inside.ModuleMachine.{function_read, annotation_declared, struct_named}
-use Rattle.module_grammar.specs.inside.ModuleMachine.{fields_read, field_read, enum_named, value_wanted}
-use Rattle.module_grammar.specs.inside.ModuleMachine.{value_read, number_wanted, number_read, struct_closed}
-use Rattle.module_grammar.specs.inside.ModuleMachine.{enum_closed, expression, opened, mdl_wanted}
-use Rattle.module_grammar.specs.inside.ModuleMachine.{version_wanted, version_read, within}
+use Rattle.module_grammar.specs.inside.ModuleStates.{Naming, Begun, Fronted, Front, Owner, Struct, Enum, Holder}
+use Rattle.module_grammar.specs.inside.ModuleMachine.{room_of, is_call_site}
+use Rattle.module_grammar.specs.inside.ModuleStates.{Site, Fronting, Position, State}
+use Rattle.module_grammar.specs.inside.ModuleStates.{up_steps, led}
+use Rattle.module_grammar.specs.inside.ModuleStates.{parted, open_ended, of_function, of_annotation, the_module}
+use Rattle.module_grammar.specs.inside.ModuleStates.{a_parameter, a_function, an_annotation, a_variant, a_struct}
+use Rattle.module_grammar.specs.inside.ModuleStates.{a_field, an_enum, an_enum_value, in_function_body}
+use Rattle.module_grammar.specs.inside.ModuleStates.{in_default, in_field_default, in_annotation, in_base}
+use Rattle.module_grammar.specs.inside.ModuleStates.{of_declaration, of_parameter, of_field, item_wanted}
+use Rattle.module_grammar.specs.inside.ModuleStates.{importing, imported, using, used_wanted, used_read}
+use Rattle.module_grammar.specs.inside.ModuleStates.{used_next, used_all, own_wanted, annotations_begun}
+use Rattle.module_grammar.specs.inside.ModuleStates.{first_annotation, annotation_read, annotations_closing}
+use Rattle.module_grammar.specs.inside.ModuleStates.{annotated, exported_read, kin_named, annotation_named}
+use Rattle.module_grammar.specs.inside.ModuleStates.{fronting, declared, parameters_begun, star_read}
+use Rattle.module_grammar.specs.inside.ModuleStates.{variant_read, base_read, parameter_read, parameter_next}
+use Rattle.module_grammar.specs.inside.ModuleStates.{function_read, annotation_declared, struct_named}
+use Rattle.module_grammar.specs.inside.ModuleStates.{fields_read, field_read, enum_named, value_wanted}
+use Rattle.module_grammar.specs.inside.ModuleStates.{value_read, number_wanted, number_read, struct_closed}
+use Rattle.module_grammar.specs.inside.ModuleStates.{enum_closed, expression, opened, mdl_wanted}
+use Rattle.module_grammar.specs.inside.ModuleStates.{version_wanted, version_read, within}
 
 -- Parts that are whole.
 

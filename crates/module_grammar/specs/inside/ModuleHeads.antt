@@ -3,17 +3,17 @@ use Rattle.std.specs.Prelude.{◌≡◌, ℕ, suc, ◌<◌, Bool, List, Option, 
 use Rattle.mdl_lexer.specs.declared.token.Token.{Token}
 use Rattle.mdl_lexer.specs.Kinds.{mark_word}
 use Rattle.expression_grammar.specs.Readings.{kinds}
-use Rattle.module_grammar.specs.inside.ModuleMachine.{Position, Holder, Site, Owner, Fronted, State, within}
-use Rattle.module_grammar.specs.inside.ModuleMachine.{item_wanted}
-use Rattle.module_grammar.specs.inside.ModuleMachine.{of_function, a_parameter, a_function, a_variant, in_function_body}
-use Rattle.module_grammar.specs.inside.ModuleMachine.{in_default, in_annotation, in_base, of_parameter, fronting}
-use Rattle.module_grammar.specs.inside.ModuleMachine.{declared}
-use Rattle.module_grammar.specs.inside.ModuleMachine.{parameters_begun, star_read, variant_read, base_read}
-use Rattle.module_grammar.specs.inside.ModuleMachine.{parameter_read}
-use Rattle.module_grammar.specs.inside.ModuleMachine.{parameter_next, function_read, annotations_begun}
-use Rattle.module_grammar.specs.inside.ModuleMachine.{first_annotation}
-use Rattle.module_grammar.specs.inside.ModuleMachine.{annotation_read, annotations_closing, annotated, expression}
-use Rattle.module_grammar.specs.inside.ModuleMachine.{opened}
+use Rattle.module_grammar.specs.inside.ModuleStates.{Position, Holder, Site, Owner, Fronted, State, within}
+use Rattle.module_grammar.specs.inside.ModuleStates.{item_wanted}
+use Rattle.module_grammar.specs.inside.ModuleStates.{of_function, a_parameter, a_function, a_variant, in_function_body}
+use Rattle.module_grammar.specs.inside.ModuleStates.{in_default, in_annotation, in_base, of_parameter, fronting}
+use Rattle.module_grammar.specs.inside.ModuleStates.{declared}
+use Rattle.module_grammar.specs.inside.ModuleStates.{parameters_begun, star_read, variant_read, base_read}
+use Rattle.module_grammar.specs.inside.ModuleStates.{parameter_read}
+use Rattle.module_grammar.specs.inside.ModuleStates.{parameter_next, function_read, annotations_begun}
+use Rattle.module_grammar.specs.inside.ModuleStates.{first_annotation}
+use Rattle.module_grammar.specs.inside.ModuleStates.{annotation_read, annotations_closing, annotated, expression}
+use Rattle.module_grammar.specs.inside.ModuleStates.{opened}
 use Rattle.module_grammar.specs.inside.ModuleLeads.{IsWholeAt}
 
 abbrev pub fronted_of_owner : Owner → Option Fronted

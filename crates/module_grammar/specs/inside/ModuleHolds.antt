@@ -38,39 +38,39 @@ use Rattle.expression_grammar.specs.inside.Machine.{deferred_closed, name_wanted
 use Rattle.expression_grammar.specs.inside.Stands.{Stands, TypeStands}
 use Rattle.expression_grammar.specs.inside.Sound.{Holds, place}
 use Rattle.module_grammar.specs.inside.ModuleParts.{Part, Each, Several, First}
-use Rattle.module_grammar.specs.inside.ModuleMachine.{Naming, unnamed, one_dot, two_dots, up_steps}
-use Rattle.module_grammar.specs.inside.ModuleMachine.{one_dot_behind}
-use Rattle.module_grammar.specs.inside.ModuleMachine.{led, parted, open_ended, Begun, Named, Fronted}
-use Rattle.module_grammar.specs.inside.ModuleMachine.{Front, Owner}
-use Rattle.module_grammar.specs.inside.ModuleMachine.{of_function, of_annotation, Struct, Enum}
-use Rattle.module_grammar.specs.inside.ModuleMachine.{Holder, the_module}
-use Rattle.module_grammar.specs.inside.ModuleMachine.{a_parameter, a_function, an_annotation}
-use Rattle.module_grammar.specs.inside.ModuleMachine.{a_variant, a_struct}
-use Rattle.module_grammar.specs.inside.ModuleMachine.{a_field, an_enum, an_enum_value, Site}
-use Rattle.module_grammar.specs.inside.ModuleMachine.{in_function_body}
-use Rattle.module_grammar.specs.inside.ModuleMachine.{in_default, in_field_default, in_annotation}
-use Rattle.module_grammar.specs.inside.ModuleMachine.{in_base, Fronting}
-use Rattle.module_grammar.specs.inside.ModuleMachine.{of_declaration, of_parameter, of_field, Kin}
-use Rattle.module_grammar.specs.inside.ModuleMachine.{struct_kin}
-use Rattle.module_grammar.specs.inside.ModuleMachine.{enum_kin, annotation_kin, Position}
-use Rattle.module_grammar.specs.inside.ModuleMachine.{item_wanted, importing}
-use Rattle.module_grammar.specs.inside.ModuleMachine.{imported, using, used_wanted, used_read}
-use Rattle.module_grammar.specs.inside.ModuleMachine.{used_next, used_all}
-use Rattle.module_grammar.specs.inside.ModuleMachine.{own_wanted, annotations_begun, first_annotation}
-use Rattle.module_grammar.specs.inside.ModuleMachine.{annotation_read, annotations_closing}
-use Rattle.module_grammar.specs.inside.ModuleMachine.{annotated, exported_read}
-use Rattle.module_grammar.specs.inside.ModuleMachine.{kin_named, annotation_named, fronting, declared}
-use Rattle.module_grammar.specs.inside.ModuleMachine.{parameters_begun, star_read, variant_read}
-use Rattle.module_grammar.specs.inside.ModuleMachine.{base_read}
-use Rattle.module_grammar.specs.inside.ModuleMachine.{parameter_read, parameter_next, function_read}
-use Rattle.module_grammar.specs.inside.ModuleMachine.{annotation_declared, struct_named, fields_read}
-use Rattle.module_grammar.specs.inside.ModuleMachine.{field_read}
-use Rattle.module_grammar.specs.inside.ModuleMachine.{enum_named, value_wanted, value_read}
-use Rattle.module_grammar.specs.inside.ModuleMachine.{number_wanted}
-use Rattle.module_grammar.specs.inside.ModuleMachine.{number_read, struct_closed, enum_closed}
-use Rattle.module_grammar.specs.inside.ModuleMachine.{expression, opened}
-use Rattle.module_grammar.specs.inside.ModuleMachine.{State, mdl_wanted, version_wanted}
-use Rattle.module_grammar.specs.inside.ModuleMachine.{version_read, within}
+use Rattle.module_grammar.specs.inside.ModuleStates.{Naming, unnamed, one_dot, two_dots, up_steps}
+use Rattle.module_grammar.specs.inside.ModuleStates.{one_dot_behind}
+use Rattle.module_grammar.specs.inside.ModuleStates.{led, parted, open_ended, Begun, Named, Fronted}
+use Rattle.module_grammar.specs.inside.ModuleStates.{Front, Owner}
+use Rattle.module_grammar.specs.inside.ModuleStates.{of_function, of_annotation, Struct, Enum}
+use Rattle.module_grammar.specs.inside.ModuleStates.{Holder, the_module}
+use Rattle.module_grammar.specs.inside.ModuleStates.{a_parameter, a_function, an_annotation}
+use Rattle.module_grammar.specs.inside.ModuleStates.{a_variant, a_struct}
+use Rattle.module_grammar.specs.inside.ModuleStates.{a_field, an_enum, an_enum_value, Site}
+use Rattle.module_grammar.specs.inside.ModuleStates.{in_function_body}
+use Rattle.module_grammar.specs.inside.ModuleStates.{in_default, in_field_default, in_annotation}
+use Rattle.module_grammar.specs.inside.ModuleStates.{in_base, Fronting}
+use Rattle.module_grammar.specs.inside.ModuleStates.{of_declaration, of_parameter, of_field, Kin}
+use Rattle.module_grammar.specs.inside.ModuleStates.{struct_kin}
+use Rattle.module_grammar.specs.inside.ModuleStates.{enum_kin, annotation_kin, Position}
+use Rattle.module_grammar.specs.inside.ModuleStates.{item_wanted, importing}
+use Rattle.module_grammar.specs.inside.ModuleStates.{imported, using, used_wanted, used_read}
+use Rattle.module_grammar.specs.inside.ModuleStates.{used_next, used_all}
+use Rattle.module_grammar.specs.inside.ModuleStates.{own_wanted, annotations_begun, first_annotation}
+use Rattle.module_grammar.specs.inside.ModuleStates.{annotation_read, annotations_closing}
+use Rattle.module_grammar.specs.inside.ModuleStates.{annotated, exported_read}
+use Rattle.module_grammar.specs.inside.ModuleStates.{kin_named, annotation_named, fronting, declared}
+use Rattle.module_grammar.specs.inside.ModuleStates.{parameters_begun, star_read, variant_read}
+use Rattle.module_grammar.specs.inside.ModuleStates.{base_read}
+use Rattle.module_grammar.specs.inside.ModuleStates.{parameter_read, parameter_next, function_read}
+use Rattle.module_grammar.specs.inside.ModuleStates.{annotation_declared, struct_named, fields_read}
+use Rattle.module_grammar.specs.inside.ModuleStates.{field_read}
+use Rattle.module_grammar.specs.inside.ModuleStates.{enum_named, value_wanted, value_read}
+use Rattle.module_grammar.specs.inside.ModuleStates.{number_wanted}
+use Rattle.module_grammar.specs.inside.ModuleStates.{number_read, struct_closed, enum_closed}
+use Rattle.module_grammar.specs.inside.ModuleStates.{expression, opened}
+use Rattle.module_grammar.specs.inside.ModuleStates.{State, mdl_wanted, version_wanted}
+use Rattle.module_grammar.specs.inside.ModuleStates.{version_read, within}
 
 -- Tokens beside each other.
 

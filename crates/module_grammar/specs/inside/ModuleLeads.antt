@@ -4,9 +4,9 @@ use Rattle.std.specs.Prelude.{length, take}
 use Rattle.mdl_lexer.specs.declared.token.Token.{Token}
 use Rattle.mdl_syntax.specs.Modules.{ModuleTree}
 use Rattle.expression_grammar.specs.inside.Machine.{is_deferred}
-use Rattle.module_grammar.specs.inside.ModuleMachine.{State, Begun, on, waits, wrong, too_deep, leaves_out}
-use Rattle.module_grammar.specs.inside.ModuleMachine.{statement_body, other_version, mdl_wanted, within, item_wanted}
-use Rattle.module_grammar.specs.inside.ModuleMachine.{expression, in_function_body, fronting, of_parameter}
+use Rattle.module_grammar.specs.inside.ModuleStates.{State, Begun, on, waits, wrong, too_deep, leaves_out}
+use Rattle.module_grammar.specs.inside.ModuleStates.{statement_body, other_version, mdl_wanted, within, item_wanted}
+use Rattle.module_grammar.specs.inside.ModuleStates.{expression, in_function_body, fronting, of_parameter}
 use Rattle.module_grammar.specs.inside.ModuleMachine.{module_taken}
 use Rattle.module_grammar.specs.inside.ModuleMachine.{module_end, ModuleRun, module_read, module_bad, module_deep}
 use Rattle.module_grammar.specs.inside.ModuleMachine.{module_left_out, module_statement, module_version, waiting_place}

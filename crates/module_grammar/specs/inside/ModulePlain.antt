@@ -15,24 +15,28 @@ use Rattle.expression_grammar.specs.inside.Machine.{type_wanted, type_bracketed,
 use Rattle.expression_grammar.specs.inside.Machine.{deferred_wanted, name_wanted, equals_wanted, wanted}
 use Rattle.expression_grammar.specs.inside.Machine.{opening_bracket}
 use Rattle.expression_grammar.specs.inside.Leads.{Leads}
-use Rattle.module_grammar.specs.inside.ModuleMachine.{Begun, Fronted, Owner, Struct, Enum, Holder}
-use Rattle.module_grammar.specs.inside.ModuleMachine.{Site, Fronting, Position, State, room_of}
-use Rattle.module_grammar.specs.inside.ModuleMachine.{is_call_site, of_function, of_annotation}
-use Rattle.module_grammar.specs.inside.ModuleMachine.{the_module, verdict_in, passes, if_deferred}
-use Rattle.module_grammar.specs.inside.ModuleMachine.{refused_here, a_parameter, a_function}
-use Rattle.module_grammar.specs.inside.ModuleMachine.{an_annotation, a_variant, a_struct, a_field}
-use Rattle.module_grammar.specs.inside.ModuleMachine.{an_enum, an_enum_value, in_function_body}
-use Rattle.module_grammar.specs.inside.ModuleMachine.{in_default, in_field_default, in_annotation}
-use Rattle.module_grammar.specs.inside.ModuleMachine.{in_base, of_declaration, of_parameter, of_field}
-use Rattle.module_grammar.specs.inside.ModuleMachine.{annotations_begun, first_annotation}
-use Rattle.module_grammar.specs.inside.ModuleMachine.{annotation_read, annotations_closing, annotated}
-use Rattle.module_grammar.specs.inside.ModuleMachine.{fronting, declared, parameters_begun, star_read}
-use Rattle.module_grammar.specs.inside.ModuleMachine.{variant_read, base_read, parameter_read}
-use Rattle.module_grammar.specs.inside.ModuleMachine.{parameter_next, function_read}
-use Rattle.module_grammar.specs.inside.ModuleMachine.{annotation_declared, fields_read, field_read}
-use Rattle.module_grammar.specs.inside.ModuleMachine.{value_wanted, value_read, number_wanted}
-use Rattle.module_grammar.specs.inside.ModuleMachine.{number_read, struct_closed, enum_closed}
-use Rattle.module_grammar.specs.inside.ModuleMachine.{expression, opened, version_read, within}
+use Rattle.module_grammar.specs.inside.ModuleStates.{Begun, Fronted, Owner, Struct, Enum, Holder}
+use Rattle.module_grammar.specs.inside.ModuleMachine.{room_of}
+use Rattle.module_grammar.specs.inside.ModuleStates.{Site, Fronting, Position, State}
+use Rattle.module_grammar.specs.inside.ModuleMachine.{is_call_site}
+use Rattle.module_grammar.specs.inside.ModuleStates.{of_function, of_annotation}
+use Rattle.module_grammar.specs.inside.ModuleMachine.{verdict_in, passes, if_deferred}
+use Rattle.module_grammar.specs.inside.ModuleStates.{the_module}
+use Rattle.module_grammar.specs.inside.ModuleMachine.{refused_here}
+use Rattle.module_grammar.specs.inside.ModuleStates.{a_parameter, a_function}
+use Rattle.module_grammar.specs.inside.ModuleStates.{an_annotation, a_variant, a_struct, a_field}
+use Rattle.module_grammar.specs.inside.ModuleStates.{an_enum, an_enum_value, in_function_body}
+use Rattle.module_grammar.specs.inside.ModuleStates.{in_default, in_field_default, in_annotation}
+use Rattle.module_grammar.specs.inside.ModuleStates.{in_base, of_declaration, of_parameter, of_field}
+use Rattle.module_grammar.specs.inside.ModuleStates.{annotations_begun, first_annotation}
+use Rattle.module_grammar.specs.inside.ModuleStates.{annotation_read, annotations_closing, annotated}
+use Rattle.module_grammar.specs.inside.ModuleStates.{fronting, declared, parameters_begun, star_read}
+use Rattle.module_grammar.specs.inside.ModuleStates.{variant_read, base_read, parameter_read}
+use Rattle.module_grammar.specs.inside.ModuleStates.{parameter_next, function_read}
+use Rattle.module_grammar.specs.inside.ModuleStates.{annotation_declared, fields_read, field_read}
+use Rattle.module_grammar.specs.inside.ModuleStates.{value_wanted, value_read, number_wanted}
+use Rattle.module_grammar.specs.inside.ModuleStates.{number_read, struct_closed, enum_closed}
+use Rattle.module_grammar.specs.inside.ModuleStates.{expression, opened, version_read, within}
 
 -- Parts that are whole.
 

@@ -21,8 +21,8 @@ abbrev line : List Kind → List Token
 line kinds = tokens_from 0 (r (codes "mdl") ∷ kind.Real (codes "1.6") false ∷ m (codes ";") ∷ kinds)
 
 -- `float f(float x) { `
-pub statement : run_module 3 (line (r (codes "float") ∷ w (codes "f") ∷ m (codes "(") ∷ r (codes "float") ∷ w (codes "x")
-    ∷ m (codes ")") ∷ m (codes "{") ∷ [])) ≡ module_statement 9
+pub statement : run_module 3 (line (r (codes "float") ∷ w (codes "f") ∷ m (codes "(") ∷ r (codes "float")
+    ∷ w (codes "x") ∷ m (codes ")") ∷ m (codes "{") ∷ [])) ≡ module_statement 9
 statement = refl
 
 -- `export material m( = 1;`
@@ -37,8 +37,8 @@ pub deferred : run_module 3 (line (r (codes "float") ∷ w (codes "f") ∷ m (co
 deferred = refl
 
 -- `float f(float x = a[[ b() ]]);` and `float f(float x = a[[[`
-pub annotated_default : run_module 3 (line (r (codes "float") ∷ w (codes "f") ∷ m (codes "(") ∷ r (codes "float") ∷ w (codes "x")
-    ∷ m (codes "=") ∷ w (codes "a") ∷ m (codes "[") ∷ m (codes "[") ∷ w (codes "b") ∷ m (codes "(") ∷ m (codes ")")
+pub annotated_default : run_module 3 (line (r (codes "float") ∷ w (codes "f") ∷ m (codes "(") ∷ r (codes "float")
+    ∷ w (codes "x") ∷ m (codes "=") ∷ w (codes "a") ∷ m (codes "[") ∷ m (codes "[") ∷ w (codes "b") ∷ m (codes "(") ∷ m (codes ")")
     ∷ m (codes "]") ∷ m (codes "]") ∷ m (codes ")") ∷ m (codes ";") ∷ m (codes ";") ∷ [])) ≡ module_bad 19 19
 annotated_default = refl
 

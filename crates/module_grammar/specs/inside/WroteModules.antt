@@ -19,7 +19,8 @@ use Rattle.mdl_syntax.specs.Placed.{last_end}
 use Rattle.mdl_syntax.specs.Modules.{Annotation, Parameter, EnumValue, Declaration, ModuleTree}
 use Rattle.mdl_syntax.specs.Modules.{material, variant, function, structure, enumeration, annotation}
 use Rattle.expression_grammar.specs.inside.Machine.{span_of, from_to, ident_at}
-use Rattle.module_grammar.specs.inside.ModuleMachine.{module_name, all_of, is_material}
+use Rattle.module_grammar.specs.inside.ModuleMachine.{all_of}
+use Rattle.module_grammar.specs.inside.ModuleStates.{module_name, is_material}
 use Rattle.expression_grammar.specs.inside.Sound.{IsMark, IsReserved, place}
 use Rattle.expression_grammar.specs.inside.Wrote.{Wrote, TypeWrote}
 

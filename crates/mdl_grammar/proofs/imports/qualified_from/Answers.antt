@@ -1,6 +1,6 @@
 use Rattle.std.proofs.Common.{◌≡◌, sym, subst, Some, slice_get, length, ◌-◌}
 use Rattle.expression_grammar.specs.inside.Machine.{from_to}
-use Rattle.module_grammar.specs.inside.ModuleMachine.{qualified_from as machine_qualified}
+use Rattle.module_grammar.specs.inside.ModuleStates.{qualified_from as machine_qualified}
 use Rattle.mdl_grammar.proofs.ImportStepLaws.{qualified_split}
 use Rattle.mdl_grammar.proofs.imports.qualified_from.Goals as goal
 

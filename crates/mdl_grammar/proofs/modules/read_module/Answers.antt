@@ -1,5 +1,5 @@
 use Rattle.std.proofs.Common.{arith}
-use Rattle.module_grammar.specs.inside.ModuleMachine.{within}
+use Rattle.module_grammar.specs.inside.ModuleStates.{within}
 use Rattle.mdl_grammar.specs.inside.ModuleViews.{begun_of, position_of}
 use Rattle.mdl_grammar.proofs.ModuleParseLaws.{loop_goes}
 use Rattle.mdl_grammar.proofs.modules.read_module.Goals as goal

@@ -1,5 +1,6 @@
 use Rattle.std.proofs.Common.{◌≡◌, ◌≤◌, ◌+◌, true, length}
-use Rattle.module_grammar.specs.inside.ModuleMachine.{run_module, run_module_from, on, within}
+use Rattle.module_grammar.specs.inside.ModuleMachine.{run_module, run_module_from}
+use Rattle.module_grammar.specs.inside.ModuleStates.{on, within}
 use Rattle.mdl_grammar.specs.inside.ModuleViews.{begun_of, position_of}
 use Rattle.mdl_grammar.proofs.modules.read_module.Given as goal
 

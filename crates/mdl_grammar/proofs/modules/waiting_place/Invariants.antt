@@ -1,5 +1,6 @@
 use Rattle.std.proofs.Common.{◌≡◌, ◌≤◌, ◌+◌, suc, length}
-use Rattle.module_grammar.specs.inside.ModuleMachine.{waiting_place, on, within}
+use Rattle.module_grammar.specs.inside.ModuleMachine.{waiting_place}
+use Rattle.module_grammar.specs.inside.ModuleStates.{on, within}
 use Rattle.mdl_grammar.specs.inside.ModuleViews.{begun_of, position_of}
 use Rattle.mdl_grammar.proofs.modules.waiting_place.Given as goal
 
