@@ -1,0 +1,15 @@
+mod ContentLaws
+mod LocateLaws
+mod PlaceLaws
+mod MemberLaws
+mod ImportLaws
+mod ClosureLaws
+mod DistanceLaws
+mod WayLaws
+mod FileLaws
+mod FrontLaws
+mod LinkLaws
+mod NumberLaws
+mod OneFaultLaws
+mod OneLoadLaws
+mod SetLaws

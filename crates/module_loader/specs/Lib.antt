@@ -1,0 +1,9 @@
+pub mod Embedded
+pub mod Files
+pub mod Members
+pub mod Closure
+pub mod TextFaults
+pub mod LoadFaults
+pub mod Loads
+pub mod OneLoad
+pub mod inside
