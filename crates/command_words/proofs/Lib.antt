@@ -1,0 +1,9 @@
+mod Fronts
+mod PartFronts
+mod NameLaws
+mod PartLaws
+mod OptionLaws
+mod NumberLaws
+mod RootLaws
+mod ModuleLaws
+mod ReadingLaws

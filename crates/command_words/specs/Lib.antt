@@ -1,0 +1,4 @@
+pub mod Identifiers
+pub mod Requests
+pub mod OneRequest
+pub mod inside
