@@ -3,14 +3,15 @@ use module_set::ModuleName;
 use std::alloc::Global;
 use std::test::Fail;
 
-// The words between blanks. `""` is an empty word, `R64` is 64 paths with `:` between them, and `R65` is 65.
+// The words between blanks. `""` is an empty word, `64-roots` is 64 paths with `:` between them,
+// and `65-roots` is 65.
 fn words(alloc: Global, line: &str) -> Result<Vec<String>, Fail> {
     let mut words = Vec::new(alloc);
     for word in line.split_whitespace() {
         words.push(match word {
             "\"\"" => String::new(alloc),
-            "R64" => roots(alloc, 64)?,
-            "R65" => roots(alloc, 65)?,
+            "64-roots" => roots(alloc, 64)?,
+            "65-roots" => roots(alloc, 65)?,
             word => String::from_str(alloc, word)?,
         })?;
     }
@@ -106,8 +107,8 @@ fn words_are_requests_or_none(rt: HostRuntime) -> Result<(), Fail> {
         // roots
         ("check - ::m", "check 1 - 1 ::m"),
         ("check -x:y ::m", "none"),
-        ("check R64 ::m", "check 64 r 1 ::m"),
-        ("check R65 ::m", "none"),
+        ("check 64-roots ::m", "check 64 r 1 ::m"),
+        ("check 65-roots ::m", "none"),
         ("check \"\" ::m", "none"),
         ("check : ::m", "none"),
         ("check a: ::m", "none"),

@@ -1,337 +1,317 @@
--- From what is found in a file to what is found for the words.
-use Rattle.std.proofs.Common.{◌≡◌, ◌≢◌, ℕ, ◌+◌, ◌<◌, ◌≤◌, true, false, List, [], ◌∷◌, Option, Some}
-use Rattle.std.proofs.Common.{None, length, refl, sym, ap, ◌∙◌, subst, inl, inr, arith}
-use Rattle.std.specs.Prelude.{IfSome, IfOk, IsUtf8, Result, Ok, Err, replicate, zero, suc}
+-- From what is found in modules that are loaded to what is found for the words.
+use Rattle.std.proofs.Common.{◌≡◌, ◌≢◌, ◌≤◌, ℕ, true, false, List, [], ◌∷◌, Option, Some, None, length, map}
+use Rattle.std.proofs.Common.{refl, sym, ap, ◌∙◌, subst, arith, inl, inr}
+use Rattle.std.specs.Prelude.{IfSome, IfOk, Result, Ok, Err}
 use Rattle.std.specs.List.{AllByRecursion}
 use Rattle.std.specs.declared.vec.Vec.{Vec}
 use Rattle.std.specs.declared.alloc.Global.{Global}
 use Rattle.std.specs.declared.alloc.AllocError.{AllocError}
-use Rattle.std.specs.Str.{bytes_eq}
-use Rattle.std.specs.Cmp.Lexicographic.{bytes_decides}
-use Rattle.std.proofs.lemmas.Bool.{false≢true, cond-true}
-use Rattle.std.proofs.lemmas.Option.{none-some}
-use Rattle.std.proofs.lemmas.List.{length-replicate, take_all}
-use Rattle.io_edge.specs.declared.source.Read.TheVariants as read
-use Rattle.io_edge.specs.Source.{File, SourceState, file_at, Reads}
+use Rattle.std.proofs.lemmas.Bool.{false≢true}
+use Rattle.io_edge.specs.Source.{File, SourceState}
 use Rattle.mdl_lexer.specs.declared.token.Token.{Token}
 use Rattle.mdl_lexer.specs.declared.token.LexFault.{LexFault}
-use Rattle.mdl_lexer.specs.declared.token.LexFault.TheVariants as fault
+use Rattle.mdl_lexer.specs.declared.token.LexFault.TheVariants as lexical
 use Rattle.mdl_lexer.specs.Lexes.{HasTokens, HasFault}
 use Rattle.mdl_lexer.specs.OneLexing.{IsFault}
-use Rattle.mdl_lexer.specs.Places.{IsPlace}
 use Rattle.mdl_lexer.proofs.LexLaws.{lexing_is_one}
-use Rattle.mdl_syntax.specs.Modules.{ModuleTree}
-use Rattle.mdl_syntax.specs.Heights.{most_height}
-use Rattle.expression_grammar.specs.declared.fault.ParseFault.{ParseFault}
-use Rattle.expression_grammar.specs.declared.fault.ParseFault.TheVariants as syntax
-use Rattle.module_grammar.specs.ModuleReadings.{ModuleReading, HasModuleReading, IsModuleTree}
-use Rattle.module_grammar.specs.ModuleReadings as readings
-use Rattle.mdl_grammar.specs.Answers.{HasModuleFault}
+use Rattle.mdl_syntax.specs.declared.modules.Module.{Module}
+use Rattle.module_set.specs.declared.module_name.ModuleName.{ModuleName}
+use Rattle.module_set.specs.declared.set.ModuleSet.{ModuleSet}
+use Rattle.module_set.specs.Members.{Member, members_from, members_of}
+use Rattle.module_loader.specs.declared.fault.LoadFault.{LoadFault}
+use Rattle.module_loader.specs.declared.fault.LoadFault.TheVariants as fault
+use Rattle.module_loader.specs.Files.{Packages, most_module}
+use Rattle.module_loader.specs.Members.{IsMember}
+use Rattle.module_loader.specs.LoadFaults.{HasLoadFault}
+use Rattle.module_loader.specs.Loads.{MayHold, packages_of, AreLoaded, Loads, FailsToLoad}
+use Rattle.command_words.specs.declared.request.Request.{Request}
+use Rattle.command_words.specs.declared.request.Task.{Task}
+use Rattle.command_words.specs.declared.request.Task.TheVariants as task
+use Rattle.command_words.specs.Requests.{IsRequest, IsTask, NoRequest, names_command}
 use Rattle.mdl_cli.specs.declared.status.Status.TheVariants as status
 use Rattle.mdl_cli.specs.declared.answer.Answer.{Answer}
 use Rattle.mdl_cli.specs.declared.answer.Answer.TheVariants as answer
-use Rattle.mdl_cli.specs.Request.{Request, IsRequest, NoRequest, names_command, module_name, path_of}
 use Rattle.mdl_cli.specs.Words.{kinds_of}
-use Rattle.mdl_cli.specs.FirstText.{AreFirstWords}
-use Rattle.mdl_cli.specs.Lines.{usage_line, absent_line, too_long_line, not_built_line, fault_line}
-use Rattle.mdl_cli.specs.Syntax.{syntax_line, byte_of}
-use Rattle.mdl_cli.specs.Outcome.{most_module, RefusesRequest, RefusesBytes}
-use Rattle.mdl_cli.specs.Headline.{MayHold, RefusalLine}
-use Rattle.mdl_cli.specs.inside.Asking.{request_in}
-use Rattle.mdl_cli.specs.inside.Delivery.{HasCause, Finds, FindsIn, FindsInWords, FindsLine}
-use Rattle.mdl_cli.specs.inside.Delivery.{FindsAt, IsLine, RefusesFault, RefusesSyntaxFault, Told}
-use Rattle.mdl_cli.proofs.RequestLaws.{request_in_sound, request_in_complete}
+use Rattle.mdl_cli.specs.FirstText.{AreFirstWords, IsFirstText}
+use Rattle.mdl_cli.specs.Lines.{usage_line, not_built_line, load_line}
+use Rattle.mdl_cli.specs.Outcome.{asked, material_name, ok_text, AnswersTask, RefusesTask}
+use Rattle.mdl_cli.specs.Headline.{RefusalLine}
+use Rattle.mdl_cli.specs.inside.Delivery.{HasCause, Finds, FindsIn, FindsInText, FindsInTexts, FindsInWords}
+use Rattle.mdl_cli.specs.inside.Delivery.{FindsAt, IsLine, IsText, Told, Given, Refuses, AreShort}
+use Rattle.mdl_cli.specs.inside.Delivery.{WithoutWords}
+use Rattle.mdl_cli.proofs.OutcomeLaws.{only_one}
 
--- files that the source may hold, with this at the path
-record Held (source : SourceState) (path : List ℕ) (file : Option (List ℕ)) : Type 0 where
-  files : List File
-  held : MayHold source files
-  there : file_at files path ≡ file
-
--- a source of one file has it
-one_file : (path bytes : List ℕ) → file_at ((path, bytes) ∷ []) path ≡ Some bytes
-one_file path bytes = cond-true (bytes_eq path path) (Some bytes) None ((bytes_decides path path).1 refl)
-
-held_by : (told : Option (List File)) (path : List ℕ) (file : Option (List ℕ)) (own : List File) →
-    file_at own path ≡ file → IfSome told (λ files. file_at files path ≡ file) →
-    (files : List File) × (IfSome told (λ held. held ≡ files) × (file_at files path ≡ file))
-held_by None path file own there told = (own, (tt, there))
-held_by (Some files) path file own there told = (files, (refl, told))
-
-held_found : (source : SourceState) (path bytes : List ℕ) →
-    IfSome source.files (λ files. file_at files path ≡ Some bytes) → Held source path (Some bytes)
-held_found source path bytes told =
-    let h = held_by source.files path (Some bytes) ((path, bytes) ∷ []) (one_file path bytes) told in
-    record { files = h.0; held = h.1.0; there = h.1.1 }
-
-held_absent : (source : SourceState) (path : List ℕ) →
-    IfSome source.files (λ files. file_at files path ≡ None) → Held source path None
-held_absent source path told =
-    let h = held_by source.files path None [] refl told in
-    record { files = h.0; held = h.1.0; there = h.1.1 }
-
--- a file that is longer than so many bytes
-Longer : ℕ → Option (List ℕ) → Type 0
-Longer most file = (bytes : List ℕ) × (file ≡ Some bytes) × (most < length bytes)
-
-long_file : (most : ℕ) → (bytes : List ℕ) × (most < length bytes)
-long_file most = (replicate (most + 1) 0, omega (arith, length-replicate {A = ℕ} (most + 1) 0))
-
-held_long : (told : Option (List File)) (path : List ℕ) (most : ℕ) →
-    IfSome told (λ files. (bytes : List ℕ) × (file_at files path ≡ Some bytes)
-    × (most < length bytes)) → (files : List File)
-    × (IfSome told (λ held. held ≡ files)
-    × ((bytes : List ℕ) × (file_at files path ≡ Some bytes) × (most < length bytes)))
-held_long None path most told =
-    let long = long_file most in
-    ((path, long.0) ∷ [], (tt, (long.0, one_file path long.0, long.1)))
-held_long (Some files) path most told = (files, (refl, told))
-
--- a line that the file is refused with
-refused_line : (request : Request) (source : SourceState) (bytes line : List ℕ) →
-    Held source (path_of request) (Some bytes) → length bytes ≤ most_module →
-    RefusesBytes request bytes line →
-    FindsLine request source line
-refused_line request source bytes line h short refuses = record {
-  files = h.files;
-  held = h.held;
-  refuses = subst (λ (file : Option (List ℕ)). RefusesRequest request file line) (sym h.there) (inr (
-    short,
-    refuses,
-  ));
-}
-
--- what is found in the file is found for the request
-in_file : (request : Request) (source after : SourceState) (bytes : List ℕ) (answer : Answer) →
-    Held source (path_of request) (Some bytes) → length bytes ≤ most_module →
-    FindsIn request bytes answer → FindsAt request source after answer
-in_file request source after bytes (answer.Text text) h short found = record {
-  files = h.files;
-  held = h.held;
-  answers = record {
-    bytes = bytes;
-    found = h.there;
-    short =
-        short;
-    accepted = found.1.0;
-    term = found.0;
-    first = found.1.1;
-    text_is = found.2;
-  };
-}
-in_file request source after bytes answer.NotBuilt h short found =
-    refused_line request source bytes not_built_line h short found
-in_file request source after bytes (answer.Refused line) h short found =
-    refused_line request source bytes line.items h short found
-in_file request source after bytes answer.OutOfMemory h short found = tt
-in_file request source after bytes answer.Usage h short found = absurd found
-in_file request source after bytes answer.ReadFault h short found = absurd found
-
-pub at_found : (request : Request) (path bytes : List ℕ) (source after : SourceState)
-    (answer : Answer) → path ≡ path_of request →
-    Reads path most_module (read.Found bytes) source after → FindsIn request bytes answer →
-    FindsAt request source after answer
-at_found request path bytes source after answer same reads found =
-    in_file request source after bytes answer
-    (subst (λ (path : List ℕ). Held source path (Some bytes)) same
-    (held_found source path bytes reads.told)) reads.within found
-
--- a line is the refusal of the request
-at_line : (request : Request) (source after : SourceState) (line : List ℕ) (answer : Answer) →
-    IsLine line answer → FindsLine request source line → FindsAt request source after answer
-at_line request source after line (answer.Refused own) is stands =
-    subst (λ (line : List ℕ). FindsLine request source line) (sym is) stands
-at_line request source after line answer.OutOfMemory is stands = tt
-at_line request source after line (answer.Text text) is stands = absurd is
-at_line request source after line answer.NotBuilt is stands = absurd is
-at_line request source after line answer.Usage is stands = absurd is
-at_line request source after line answer.ReadFault is stands = absurd is
-
-pub at_absent : (request : Request) (path : List ℕ) (source after : SourceState) (answer : Answer) →
-    path ≡ path_of request → Reads path most_module read.Absent source after →
-    IsLine (absent_line (module_name request)) answer → FindsAt request source after answer
-at_absent request path source after answer same reads is =
-    let h = subst (λ (path : List ℕ). Held source path None) same (held_absent source path reads.told) in
-    at_line request source after (absent_line (module_name request)) answer is (record {
-      files = h.files;
-      held = h.held;
-      refuses = subst
-          (λ (file : Option (List ℕ)). RefusesRequest request file (absent_line (module_name request)))
-          (sym h.there) refl;
-    })
-
-pub at_too_long : (request : Request) (path : List ℕ) (source after : SourceState) (answer : Answer) →
-    path ≡ path_of request → Reads path most_module read.TooLong source after →
-    IsLine (too_long_line (module_name request)) answer → FindsAt request source after answer
-at_too_long request path source after answer same reads is =
-    let h = held_long source.files path most_module reads.told in
-    let there : file_at h.0 (path_of request) ≡ Some h.1.1.0 = ap (file_at h.0) (sym same) ∙ h.1.1.1 in
-    at_line request source after (too_long_line (module_name request)) answer is (record {
-      files = h.0;
-      held = h.1.0;
-      refuses = subst
-          (λ (file : Option (List ℕ)). RefusesRequest request file
-          (too_long_line (module_name request))) (sym there) (inl (h.1.1.2, refl));
-    })
-
--- what is found in a module's words is found in the file
-pub words_found : (request : Request) (bytes : List ℕ) (tokens : List Token) (tree : ModuleTree)
-    (found : Answer) → HasTokens bytes tokens → IsModuleTree most_height tokens tree →
-    FindsInWords request (kinds_of tokens) found → FindsIn request bytes found
-words_found request bytes tokens tree (answer.Text text) has reads is = (
-  is.0,
-  (
-    record { tokens = tokens; has = has; tree = tree; reads = reads },
-    record { tokens = tokens; has = has; first = is.1 },
-  ),
-  is.2,
-)
-words_found request bytes tokens tree (answer.Refused line) has reads is =
-    inr (inr (inr (record {
-      accepted = record { tokens = tokens; has = has; tree = tree; reads = reads };
-      name = is.name;
-      term = is.term;
-      first = record { tokens = tokens; has = has; first = is.first };
-      other = is.other;
-      line_is = is.line_is;
-    })))
-words_found request bytes tokens tree answer.NotBuilt has reads is =
-    inr (inr (inl (record {
-      accepted = record { tokens = tokens; has = has; tree = tree; reads = reads };
-      none = λ name term first.
-          is name term
-          (subst (λ (ts : List Token). AreFirstWords (kinds_of ts) name term)
-          ((lexing_is_one bytes).one_list first.tokens tokens first.has has) first.first);
-      line_is = refl;
-    })))
-words_found request bytes tokens tree answer.OutOfMemory has reads is = tt
-words_found request bytes tokens tree answer.Usage has reads is = is
-words_found request bytes tokens tree answer.ReadFault has reads is = is
-
--- the line of the fault of a module's words, if there was memory for it
-syntax_found : (request : Request) (bytes : List ℕ) (tokens : List Token) (reading : ModuleReading)
-    (line : List ℕ) (found : Answer) → HasTokens bytes tokens →
-    HasModuleReading most_height tokens reading →
-    Some line ≡ syntax_line (module_name request) bytes tokens reading → IsLine line found →
-    FindsIn request bytes found
-syntax_found request bytes tokens reading line (answer.Refused own) has stands of is =
-    inr (inl (record {
-      tokens = tokens;
-      has = has;
-      reading = reading;
-      stands = stands;
-      line_is = ap Some is ∙ of;
-    }))
-syntax_found request bytes tokens reading line answer.OutOfMemory has stands of is = tt
-syntax_found request bytes tokens reading line (answer.Text text) has stands of is = absurd is
-syntax_found request bytes tokens reading line answer.NotBuilt has stands of is = absurd is
-syntax_found request bytes tokens reading line answer.Usage has stands of is = absurd is
-syntax_found request bytes tokens reading line answer.ReadFault has stands of is = absurd is
-
--- what is found where a fault stands in a module's words
-pub syntax_fault_found : (request : Request) (bytes : List ℕ) (tokens : List Token)
-    (fault_is : ParseFault) (found : Answer) → HasTokens bytes tokens →
-    HasModuleFault most_height tokens fault_is →
-    RefusesSyntaxFault (module_name request) bytes tokens fault_is found → FindsIn request bytes found
-syntax_fault_found request bytes tokens (syntax.BadSyntax declaration at) found has stands is =
-    syntax_found request bytes tokens (readings.bad_syntax declaration at) _ found has stands refl is
-syntax_fault_found request bytes tokens (syntax.TooDeep at) found has stands is =
-    syntax_found request bytes tokens (readings.too_deep at) _ found has stands refl is
-syntax_fault_found request bytes tokens (syntax.StatementBody at) found has stands is =
-    syntax_found request bytes tokens (readings.statement_body at) _ found has stands refl is
-syntax_fault_found request bytes tokens (syntax.LeftOut at word) found has stands is =
-    syntax_found request bytes tokens (readings.left_out at word) _ found has stands refl is
-syntax_fault_found request bytes tokens (syntax.Version at) found has stands is =
-    syntax_found request bytes tokens (readings.other_version at) _ found has stands refl is
-syntax_fault_found request bytes tokens syntax.OutOfMemory found has stands is =
-    subst (λ (a : Answer). FindsIn request bytes a) (sym is) tt
-
--- the byte of a word is a place, and so is the end of the text
-pub word_place : (bytes : List ℕ) (tokens : List Token) (number : ℕ) → IsUtf8 bytes →
-    AllByRecursion (λ (token : Token). IsPlace bytes token.at) tokens →
-    IsPlace bytes (byte_of bytes tokens number)
-word_place bytes [] number text places = record {
-  within = omega arith;
-  front = subst IsUtf8 (sym (take_all (length bytes) bytes (omega arith))) text;
-}
-word_place bytes (token ∷ tokens) zero text places = places.0
-word_place bytes (token ∷ tokens) (suc number) text places =
-    word_place bytes tokens number text places.1
-
--- a line that may have failed is told, if there was memory for it
+-- a line or a text that may have failed is told, if there was memory for it
 pub told_line : (line : List ℕ) (result : Result (Vec ℕ Global) AllocError) (found : Answer) →
     IfOk result (λ own. own.items ≡ line) → Told result found → IsLine line found
-told_line line (Ok own) found is told = subst (λ (a : Answer). IsLine line a) (sym told) is
-told_line line (Err error) found is told = subst (λ (a : Answer). IsLine line a) (sym told) tt
+told_line line (Ok own) found is told = subst (IsLine line) (sym told) is
+told_line line (Err error) found is told = subst (IsLine line) (sym told) tt
 
--- the line of a fault, if there was memory for it
-line_found : (request : Request) (bytes : List ℕ) (fault_is : LexFault) (found : Answer) →
-    IsFault bytes fault_is →
-    IsLine (fault_line (module_name request) bytes fault_is) found → FindsIn request bytes found
-line_found request bytes fault_is (answer.Refused line) stands is =
-    inl (record { fault = fault_is; stands = stands; line_is = is })
-line_found request bytes fault_is answer.OutOfMemory stands is = tt
-line_found request bytes fault_is (answer.Text text) stands is = absurd is
-line_found request bytes fault_is answer.NotBuilt stands is = absurd is
-line_found request bytes fault_is answer.Usage stands is = absurd is
-line_found request bytes fault_is answer.ReadFault stands is = absurd is
+pub told_text : (text : List ℕ) (result : Result (Vec ℕ Global) AllocError) (found : Answer) →
+    IfOk result (λ own. own.items ≡ text) → Given result found → IsText text found
+told_text text (Ok own) found is given = subst (IsText text) (sym given) is
+told_text text (Err error) found is given = subst (IsText text) (sym given) tt
 
--- what is found where a fault stands in the file
-pub fault_found : (request : Request) (bytes : List ℕ) (fault_is : LexFault) (found : Answer) →
-    HasFault bytes fault_is → RefusesFault (module_name request) bytes fault_is found →
-    FindsIn request bytes found
-fault_found request bytes (fault.NotUtf8 at) found stands is =
-    line_found request bytes (fault.NotUtf8 at) found ((λ e. absurd cc), stands) is
-fault_found request bytes (fault.BadToken at) found stands is =
-    line_found request bytes (fault.BadToken at) found ((λ e. absurd cc), stands) is
-fault_found request bytes (fault.IntRange at) found stands is =
-    line_found request bytes (fault.IntRange at) found ((λ e. absurd cc), stands) is
-fault_found request bytes fault.OutOfMemory found stands is =
-    subst (λ (a : Answer). FindsIn request bytes a) (sym is) tt
+-- what is found in the words of a text is found in it
+pub words_found : (whole material bytes : List ℕ) (tokens : List Token) (found : Answer) → HasTokens bytes tokens →
+    FindsInWords whole material (kinds_of tokens) found → FindsInText whole material bytes found
+words_found whole material bytes tokens (answer.Text text) has is =
+    (is.0, record { tokens = tokens; has = has; first = is.1 }, is.2)
+words_found whole material bytes tokens (answer.Refused line) has is =
+    (is.0, (is.1.0, record { tokens = tokens; has = has; first = is.1.1 }, is.1.2, is.1.3))
+words_found whole material bytes tokens answer.NotBuilt has is = λ name term first.
+    is name term
+    (subst (λ (all : List Token). AreFirstWords (kinds_of all) name term)
+    ((lexing_is_one bytes).one_list first.tokens tokens first.has has) first.first)
+words_found whole material bytes tokens answer.OutOfMemory has is = tt
+words_found whole material bytes tokens answer.Usage has is = is
+words_found whole material bytes tokens answer.ReadFault has is = is
 
-cause_of : (words : List (List ℕ)) (request : Request) (source after : SourceState) (answer : Answer) →
-    IsRequest words request → names_command words ≡ true → FindsAt request source after answer →
-    HasCause words source after answer
-cause_of words request source after (answer.Text text) asked named found =
-    record {
-      files =
-          found.files;
-      held = found.held;
-      answer =
-          record { request = request; asked = asked; answers = found.answers };
-    }
-cause_of words request source after (answer.Refused line) asked named found =
-    record {
-      files =
-          found.files;
-      held = found.held;
-      refusal =
-          record { request = request; asked = asked; refuses = found.refuses };
-    }
-cause_of words request source after answer.NotBuilt asked named found =
-    record {
-      files =
-          found.files;
-      held = found.held;
-      refusal =
-          record { request = request; asked = asked; refuses = found.refuses };
-    }
-cause_of words request source after answer.Usage asked named found = absurd found
-cause_of words request source after answer.ReadFault asked named found = found.0
-cause_of words request source after answer.OutOfMemory asked named found = named
+-- bytes that have no words are no first text
+none_found : (whole material bytes : List ℕ) (stands : LexFault) (found : Answer) → IsFault bytes stands →
+    found ≡ answer.NotBuilt → FindsInText whole material bytes found
+none_found whole material bytes stands found has is =
+    subst (FindsInText whole material bytes) (sym is)
+    (λ name term first. (lexing_is_one bytes).not_both first.tokens stands first.has has)
 
-never_faulty : (request : Request) (source after : SourceState) (result : Answer) →
-    FindsAt request source after result → source.steady ≡ true → result ≢ answer.ReadFault
-never_faulty request source after result found steady is =
-    (subst (λ (result : Answer). FindsAt request source after result) is found).1 steady
+pub wordless_found : (whole material bytes : List ℕ) (stands : LexFault) (found : Answer) → HasFault bytes stands →
+    WithoutWords stands found → FindsInText whole material bytes found
+wordless_found whole material bytes (lexical.NotUtf8 at) found has is =
+    none_found whole material bytes (lexical.NotUtf8 at) found ((λ e. absurd cc), has) is
+wordless_found whole material bytes (lexical.BadToken at) found has is =
+    none_found whole material bytes (lexical.BadToken at) found ((λ e. absurd cc), has) is
+wordless_found whole material bytes (lexical.IntRange at) found has is =
+    none_found whole material bytes (lexical.IntRange at) found ((λ e. absurd cc), has) is
+wordless_found whole material bytes lexical.OutOfMemory found has is =
+    subst (FindsInText whole material bytes) (sym is) tt
+
+-- The lists of a set.
+
+texts-from : (names : List ModuleName) (modules : List Module) (texts : List (List ℕ)) →
+    length modules ≡ length names → length texts ≡ length names →
+    map (λ (member : Member). member.text) (members_from names modules texts) ≡ texts
+texts-from [] modules [] all each = refl
+texts-from [] modules (text ∷ texts) all each = absurd (omega (arith, each))
+texts-from (name ∷ names) [] texts all each = absurd (omega (arith, all))
+texts-from (name ∷ names) (one ∷ modules) [] all each = absurd (omega (arith, each))
+texts-from (name ∷ names) (one ∷ modules) (text ∷ texts) all each =
+    ap (λ more. text ∷ more) (texts-from names modules texts (omega (arith, all)) (omega (arith, each)))
+
+count-from : (names : List ModuleName) (modules : List Module) (texts : List (List ℕ)) →
+    length modules ≡ length names → length texts ≡ length names →
+    length (members_from names modules texts) ≡ length names
+count-from [] modules texts all each = refl
+count-from (name ∷ names) [] texts all each = absurd (omega (arith, all))
+count-from (name ∷ names) (one ∷ modules) [] all each = absurd (omega (arith, each))
+count-from (name ∷ names) (one ∷ modules) (text ∷ texts) all each =
+    omega (arith, count-from names modules texts (omega (arith, all)) (omega (arith, each)))
+
+all-short : (packages : Packages) (members : List Member) → AllByRecursion (IsMember packages) members →
+    AllByRecursion (λ text. length text ≤ most_module) (map (λ (member : Member). member.text) members)
+all-short packages [] is = tt
+all-short packages (member ∷ members) is = (is.0.short, all-short packages members is.1)
+
+-- the texts of a set that is loaded are short
+pub short-texts : (roots : List (List ℕ)) (first : List ModuleName) (source : SourceState) (set : ModuleSet) →
+    Loads roots first source set → AreShort set
+short-texts roots first source set (files, held, loaded) =
+    subst (AllByRecursion (λ text. length text ≤ most_module))
+    (texts-from set.names set.modules set.texts loaded.whole.0 loaded.whole.1)
+    (all-short (packages_of roots files) (members_of set) loaded.are.each)
+
+-- What is found over modules that are loaded.
+
+abbrev FindsOver : Task → List Member → Answer → Type 0
+FindsOver own members (answer.Text text) = AnswersTask own members text.items
+FindsOver own members (answer.Refused line) = RefusesTask own members line.items
+FindsOver own members answer.NotBuilt = RefusesTask own members not_built_line
+FindsOver own members answer.OutOfMemory = Unit {0}
+FindsOver own members _ = ⊥
+
+several_over : (own : ModuleName) (material : List ℕ) (members : List Member) (found : Answer) →
+    ((member : Member) → members ≡ member ∷ [] → ⊥) → found ≡ answer.NotBuilt →
+    FindsOver (task.Instance own material) members found
+several_over own material members found several is =
+    subst (FindsOver (task.Instance own material) members) (sym is)
+    (inl (record { none = λ member name term only first. several member only; line_is = refl }))
+
+one_over : (own : ModuleName) (material : List ℕ) (member : Member) (found : Answer) →
+    FindsInText (material_name own material) material member.text found →
+    FindsOver (task.Instance own material) (member ∷ []) found
+one_over own material member (answer.Text text) is = record {
+  member = member;
+  only = refl;
+  term = is.0;
+  first = is.1;
+  text_is = is.2;
+}
+one_over own material member (answer.Refused line) is =
+    inr (record {
+      member = member;
+      only = refl;
+      name = is.0;
+      term = is.1.0;
+      first = is.1.1;
+      other = is.1.2;
+      line_is = is.1.3;
+    })
+one_over own material member answer.NotBuilt is =
+    inl (record {
+      none = λ other name term only first.
+          is name term
+          (subst (λ (one : Member). IsFirstText one.text name term)
+          (only_one (member ∷ []) other member only refl) first);
+      line_is = refl;
+    })
+one_over own material member answer.OutOfMemory is = tt
+one_over own material member answer.Usage is = is
+one_over own material member answer.ReadFault is = is
+
+instance_over : (own : ModuleName) (material : List ℕ) (members : List Member) (found : Answer) →
+    FindsInTexts (material_name own material) material (map (λ (member : Member). member.text) members) found →
+    FindsOver (task.Instance own material) members found
+instance_over own material [] found is =
+    several_over own material [] found (λ member only. absurd (omega (arith, ap length only))) is
+instance_over own material (member ∷ []) found is = one_over own material member found is
+instance_over own material (member ∷ next ∷ more) found is =
+    several_over own material (member ∷ next ∷ more) found
+    (λ other only. absurd (omega (arith, ap length only))) is
+
+check_over : (modules : List ModuleName) (members : List Member) (count : ℕ) (found : Answer) →
+    length members ≡ count → IsText (ok_text count) found → FindsOver (task.Check modules) members found
+check_over modules members count (answer.Text text) same is = is ∙ ap ok_text (sym same)
+check_over modules members count answer.OutOfMemory same is = tt
+check_over modules members count (answer.Refused line) same is = absurd is
+check_over modules members count answer.NotBuilt same is = absurd is
+check_over modules members count answer.Usage same is = absurd is
+check_over modules members count answer.ReadFault same is = absurd is
+
+task_over : (own : Task) (set : ModuleSet) (found : Answer) → length set.modules ≡ length set.names →
+    length set.texts ≡ length set.names → FindsIn own set found → FindsOver own (members_of set) found
+task_over (task.Instance own material) set found all each is =
+    instance_over own material (members_of set) found
+    (subst (λ texts. FindsInTexts (material_name own material) material texts found)
+    (sym (texts-from set.names set.modules set.texts all each)) is)
+task_over (task.Check modules) set found all each is =
+    check_over modules (members_of set) (length set.names) found
+    (count-from set.names set.modules set.texts all each) is
+
+over_found : (request : Request) (source after : SourceState) (files : List File) (members : List Member)
+    (found : Answer) → MayHold source files →
+    AreLoaded (packages_of request.roots files) (asked request.task) members →
+    FindsOver request.task members found → FindsAt request source after found
+over_found request source after files members (answer.Text text) held loaded is = record {
+  files = files;
+  held = held;
+  answers = record { members = members; loaded = loaded; answers = is };
+}
+over_found request source after files members (answer.Refused line) held loaded is = record {
+  files = files;
+  held = held;
+  refuses = inr (record { members = members; loaded = loaded; refuses = is });
+}
+over_found request source after files members answer.NotBuilt held loaded is = record {
+  files = files;
+  held = held;
+  refuses = inr (record { members = members; loaded = loaded; refuses = is });
+}
+over_found request source after files members answer.OutOfMemory held loaded is = tt
+over_found request source after files members answer.Usage held loaded is = absurd is
+over_found request source after files members answer.ReadFault held loaded is = absurd is
+
+-- what is found in a set that is loaded is found for the request
+pub loaded_found : (request : Request) (source after : SourceState) (roots : List (List ℕ))
+    (first : List ModuleName) (set : ModuleSet) (found : Answer) → roots ≡ request.roots →
+    first ≡ asked request.task → Loads roots first source set → FindsIn request.task set found →
+    FindsAt request source after found
+loaded_found request source after roots first set found same wanted (files, held, loaded) is =
+    over_found request source after files (members_of set) found held
+    (subst (λ first. AreLoaded (packages_of request.roots files) first (members_of set)) wanted
+    (subst (λ roots. AreLoaded (packages_of roots files) first (members_of set)) same loaded.are))
+    (task_over request.task set found loaded.whole.0 loaded.whole.1 is)
+
+-- What is found where modules can't be loaded.
+
+line_found : (request : Request) (source after : SourceState) (stands : LoadFault) (found : Answer) →
+    (files : List File) × MayHold source files
+    × HasLoadFault (packages_of request.roots files) (asked request.task) stands →
+    IsLine (load_line stands) found → FindsAt request source after found
+line_found request source after stands (answer.Refused line) (files, held, has) is = record {
+  files = files;
+  held = held;
+  refuses = inl (record { fault = stands; stands = has; line_is = is });
+}
+line_found request source after stands answer.OutOfMemory has is = tt
+line_found request source after stands (answer.Text text) has is = absurd is
+line_found request source after stands answer.NotBuilt has is = absurd is
+line_found request source after stands answer.Usage has is = absurd is
+line_found request source after stands answer.ReadFault has is = absurd is
+
+fault_found : (request : Request) (source after : SourceState) (stands : LoadFault) (found : Answer) →
+    FailsToLoad request.roots (asked request.task) source after stands → Refuses stands found →
+    FindsAt request source after found
+fault_found request source after fault.ReadFault found fails is =
+    subst (FindsAt request source after) (sym is) fails
+fault_found request source after fault.OutOfMemory found fails is =
+    subst (FindsAt request source after) (sym is) tt
+fault_found request source after (fault.Absent asker place name) found fails is =
+    line_found request source after (fault.Absent asker place name) found fails is
+fault_found request source after (fault.TooLong name) found fails is =
+    line_found request source after (fault.TooLong name) found fails is
+fault_found request source after (fault.Lex name own place) found fails is =
+    line_found request source after (fault.Lex name own place) found fails is
+fault_found request source after (fault.Parse name own place) found fails is =
+    line_found request source after (fault.Parse name own place) found fails is
+fault_found request source after fault.TooMany found fails is =
+    line_found request source after fault.TooMany found fails is
+fault_found request source after (fault.Cycle path) found fails is =
+    line_found request source after (fault.Cycle path) found fails is
+
+pub refused_found : (request : Request) (source after : SourceState) (roots : List (List ℕ))
+    (first : List ModuleName) (stands : LoadFault) (found : Answer) → roots ≡ request.roots →
+    first ≡ asked request.task → FailsToLoad roots first source after stands → Refuses stands found →
+    FindsAt request source after found
+refused_found request source after roots first stands found same wanted fails is =
+    fault_found request source after stands found
+    (subst (λ first. FailsToLoad request.roots first source after stands) wanted
+    (subst (λ roots. FailsToLoad roots first source after stands) same fails)) is
+
+-- From a request to the words.
+
+cause_of : (words : List (List ℕ)) (request : Request) (source after : SourceState) (found : Answer) →
+    IsRequest words request → names_command words ≡ true → FindsAt request source after found →
+    HasCause words source after found
+cause_of words request source after (answer.Text text) is named at = record {
+  files = at.files;
+  held = at.held;
+  answer = record { request = request; is = is; answers = at.answers };
+}
+cause_of words request source after (answer.Refused line) is named at = record {
+  files = at.files;
+  held = at.held;
+  refusal = record { request = request; is = is; refuses = at.refuses };
+}
+cause_of words request source after answer.NotBuilt is named at = record {
+  files = at.files;
+  held = at.held;
+  refusal = record { request = request; is = is; refuses = at.refuses };
+}
+cause_of words request source after answer.Usage is named at = absurd at
+cause_of words request source after answer.ReadFault is named at = at.0
+cause_of words request source after answer.OutOfMemory is named at = named
+
+never_faulty : (request : Request) (source after : SourceState) (found : Answer) →
+    FindsAt request source after found → source.steady ≡ true → found ≢ answer.ReadFault
+never_faulty request source after found at steady is =
+    (subst (FindsAt request source after) is at).1 steady
 
 -- what is found for the request is found for the words
-pub finds_asked : (words : List (List ℕ)) (request : Request) (source after : SourceState)
-    (answer : Answer) → names_command words ≡ true → request_in words ≡ Some request →
-    FindsAt request source after answer → Finds words source after answer
-finds_asked words request source after answer named asked found = record {
-  cause = cause_of words request source after answer (request_in_sound words request asked) named found;
-  steady = never_faulty request source after answer found;
+pub finds_asked : (words : List (List ℕ)) (request : Request) (source after : SourceState) (found : Answer) →
+    names_command words ≡ true → IsRequest words request → FindsAt request source after found →
+    Finds words source after found
+finds_asked words request source after found named is at = record {
+  cause = cause_of words request source after found is named at;
+  steady = never_faulty request source after found at;
   no_command = λ unnamed. absurd (false≢true (sym unnamed ∙ named));
 }
 
@@ -342,8 +322,7 @@ any_files (Some files) = (files, refl)
 usage_stands : (words : List (List ℕ)) (source : SourceState) → NoRequest words →
     RefusalLine words source status.Usage usage_line
 usage_stands words source none =
-    let h = any_files source.files in
-    record { files = h.0; held = h.1; refusal = (none, refl) }
+    let h = any_files source.files in record { files = h.0; held = h.1; refusal = (none, refl) }
 
 -- words that are no request are found to be none
 pub finds_usage : (words : List (List ℕ)) (source after : SourceState) → NoRequest words →
@@ -354,10 +333,13 @@ finds_usage words source after none = record {
   no_command = λ unnamed. refl;
 }
 
-pub unnamed_none : (words : List (List ℕ)) → names_command words ≡ false → NoRequest words
-unnamed_none words unnamed request asked =
-    absurd (false≢true (sym unnamed ∙ (ap names_command asked.written ∙ refl)))
+task_named : (command : List ℕ) (behind others : List (List ℕ)) (own : Task) →
+    IsTask command others own → names_command (command ∷ behind) ≡ true
+task_named command behind others (task.Instance name material) is =
+    ap (λ word. names_command (word ∷ behind)) is.0
+task_named command behind others (task.Check modules) is = ap (λ word. names_command (word ∷ behind)) is.0
 
-pub unread_none : (words : List (List ℕ)) → None ≡ request_in words → NoRequest words
-unread_none words none request asked =
-    absurd (none-some request (none ∙ request_in_complete words request asked))
+pub unnamed_none : (words : List (List ℕ)) → names_command words ≡ false → NoRequest words
+unnamed_none words unnamed request is =
+    absurd (false≢true (sym unnamed
+    ∙ (ap names_command is.written ∙ task_named is.command is.behind is.others request.task is.is_task)))

@@ -7,7 +7,7 @@ use Rattle.mdl_cli.specs.declared.status.Status.{Status}
 use Rattle.mdl_cli.specs.declared.status.Status.TheVariants as status
 use Rattle.mdl_cli.specs.declared.answer.Answer.{Answer}
 use Rattle.mdl_cli.specs.declared.answer.Answer.TheVariants as answer
-use Rattle.mdl_cli.specs.Request.{names_command}
+use Rattle.command_words.specs.Requests.{names_command}
 use Rattle.mdl_cli.specs.Lines.{usage_line, read_fault_line, write_fault_line, out_of_memory_line}
 use Rattle.mdl_cli.specs.Lines.{not_built_line}
 use Rattle.mdl_cli.specs.Headline.{Call, TookPart, AnswerText, RefusalLine, Told, ToldWriteFault}

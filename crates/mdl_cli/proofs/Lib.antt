@@ -1,15 +1,11 @@
 pub mod CompleteLaws
 pub mod FindLaws
 pub mod FirstLaws
-pub mod Fronts
 pub mod GivesLaws
 pub mod GraphTextLaws
 pub mod HeadlineLaws
 pub mod KidLaws
 pub mod OutcomeLaws
-pub mod PartFronts
-pub mod PartLaws
 pub mod PutLaws
-pub mod RequestLaws
 pub mod TermReading
 pub mod TreeLaws

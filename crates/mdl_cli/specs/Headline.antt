@@ -1,12 +1,13 @@
 -- What `run` promises of every command line, source and pair of sinks.
 use Rattle.std.specs.Prelude.{◌≡◌, ◌≢◌, ◌⊎◌, ℕ, ◌≤◌, ◌<◌, Bool, true, false}
-use Rattle.std.specs.Prelude.{List, Some, length, take, IfSome}
+use Rattle.std.specs.Prelude.{List, Some, length, take}
 use Rattle.case_table.specs.Counts.{Rose}
 use Rattle.io_edge.specs.Source.{File, SourceState}
 use Rattle.io_edge.specs.Sink.{SinkState, followed_by}
+use Rattle.module_loader.specs.Loads.{MayHold}
 use Rattle.mdl_cli.specs.declared.status.Status.{Status}
 use Rattle.mdl_cli.specs.declared.status.Status.TheVariants as status
-use Rattle.mdl_cli.specs.Request.{names_command}
+use Rattle.command_words.specs.Requests.{names_command}
 use Rattle.mdl_cli.specs.Outcome.{Answer, Refusal}
 use Rattle.mdl_cli.specs.Lines.{read_fault_line, write_fault_line, out_of_memory_line}
 
@@ -21,10 +22,6 @@ pub record Call : Type 0 where
   pub out_after : SinkState
   pub diag : SinkState
   pub diag_after : SinkState
-
--- the source may hold these files: they are the ones that it tells, where it tells any
-abbrev pub MayHold : SourceState → List File → Type 0
-MayHold source files = IfSome source.files (λ told. told ≡ files)
 
 -- a sink took a text after what it had, or nothing, or the text's front and not all of it
 abbrev pub Took : List ℕ → SinkState → SinkState → Type 0

@@ -1,10 +1,8 @@
 pub mod Names
-pub mod Request
 pub mod Words
 pub mod FirstText
 pub mod GraphText
 pub mod Lines
-pub mod Syntax
 pub mod Outcome
 pub mod OneOutcome
 pub mod Headline

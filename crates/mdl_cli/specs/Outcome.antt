@@ -1,98 +1,103 @@
 -- The answer to a command line over files, and the refusal where there is no answer.
-use Rattle.std.specs.Prelude.{◌≡◌, ◌≢◌, ◌⊎◌, ℕ, ◌≤◌, ◌<◌, List, Option, Some, None, length}
-use Rattle.io_edge.specs.Source.{File, file_at}
+use Rattle.std.specs.Prelude.{◌≡◌, ◌≢◌, ◌⊎◌, ℕ, List, [], ◌∷◌, ◌++◌, codes, decimal, length}
+use Rattle.io_edge.specs.Source.{File}
 use Rattle.type_rules.specs.Terms.{Term}
-use Rattle.mdl_lexer.specs.declared.token.Token.{Token}
-use Rattle.mdl_lexer.specs.declared.token.LexFault.{LexFault}
-use Rattle.mdl_lexer.specs.Lexes.{HasTokens}
-use Rattle.mdl_lexer.specs.OneLexing.{IsFault}
-use Rattle.mdl_syntax.specs.Modules.{ModuleTree}
-use Rattle.mdl_syntax.specs.Heights.{most_height}
-use Rattle.module_grammar.specs.ModuleReadings.{ModuleReading, HasModuleReading, IsModuleTree}
+use Rattle.module_set.specs.declared.module_name.ModuleName.{ModuleName}
+use Rattle.module_set.specs.Names.{named, written_name}
+use Rattle.module_set.specs.Members.{Member}
+use Rattle.module_loader.specs.declared.fault.LoadFault.{LoadFault}
+use Rattle.module_loader.specs.LoadFaults.{HasLoadFault}
+use Rattle.module_loader.specs.Loads.{packages_of, AreLoaded}
+use Rattle.command_words.specs.declared.request.Request.{Request}
+use Rattle.command_words.specs.declared.request.Task.{Task}
+use Rattle.command_words.specs.declared.request.Task.TheVariants as task
+use Rattle.command_words.specs.Requests.{IsRequest, NoRequest}
 use Rattle.mdl_cli.specs.declared.status.Status.{Status}
 use Rattle.mdl_cli.specs.declared.status.Status.TheVariants as status
-use Rattle.mdl_cli.specs.Request.{Request, IsRequest, NoRequest, module_name, material_name, path_of}
 use Rattle.mdl_cli.specs.FirstText.{IsFirstText}
 use Rattle.mdl_cli.specs.GraphText.{instance_text}
-use Rattle.mdl_cli.specs.Lines.{usage_line, absent_line, too_long_line, not_built_line, fault_line}
-use Rattle.mdl_cli.specs.Lines.{material_unknown_line}
-use Rattle.mdl_cli.specs.Syntax.{syntax_line}
+use Rattle.mdl_cli.specs.Lines.{usage_line, not_built_line, load_line, material_unknown_line}
 
--- the longest file of a module, in bytes
-abbrev pub most_module : ℕ
-most_module = 4194304
+-- the modules that a task asks for
+abbrev pub asked : Task → List ModuleName
+asked (task.Instance own material) = own ∷ []
+asked (task.Check modules) = modules
 
--- the bytes are those of a module that is accepted
-pub record IsModuleText (bytes : List ℕ) : Type 0 where
-  pub tokens : List Token
-  pub has : HasTokens bytes tokens
-  pub tree : ModuleTree
-  pub reads : IsModuleTree most_height tokens tree
+-- the absolute name of a material
+abbrev pub material_name : ModuleName → List ℕ → List ℕ
+material_name own material = written_name (named (own.parts ++ material ∷ []))
 
--- the file of the request's module is a first text of its material, and this is its instance's text
-pub record AnswersRequest (request : Request) (file : Option (List ℕ)) (text : List ℕ) : Type 0 where
-  pub bytes : List ℕ
-  pub found : file ≡ Some bytes
-  pub short : length bytes ≤ most_module
-  pub accepted : IsModuleText bytes
+-- so many modules are in order
+abbrev pub ok_text : ℕ → List ℕ
+ok_text count = codes "ok " ++ (decimal count ++ codes "\n")
+
+-- there is one module, its text is a first text of the material, and this is its instance's text
+pub record IsInstance (own : ModuleName) (material : List ℕ) (members : List Member) (text : List ℕ) : Type 0 where
+  pub member : Member
+  pub only : members ≡ member ∷ []
   pub term : Term
-  pub first : IsFirstText bytes request.material term
-  pub text_is : text ≡ instance_text (material_name request) term
+  pub first : IsFirstText member.text material term
+  pub text_is : text ≡ instance_text (material_name own material) term
+
+-- the text that a task has over modules that are loaded
+abbrev pub AnswersTask : Task → List Member → List ℕ → Type 0
+AnswersTask (task.Instance own material) members text = IsInstance own material members text
+AnswersTask (task.Check modules) members text = text ≡ ok_text (length members)
+
+-- the modules that a request asks for are loaded from the files, and this is the text of its task
+pub record AnswersRequest (request : Request) (files : List File) (text : List ℕ) : Type 0 where
+  pub members : List Member
+  pub loaded : AreLoaded (packages_of request.roots files) (asked request.task) members
+  pub answers : AnswersTask request.task members text
 
 -- the answer: the words are a request, and this is its text
 pub record Answer (words : List (List ℕ)) (files : List File) (text : List ℕ) : Type 0 where
   pub request : Request
-  pub asked : IsRequest words request
-  pub answers : AnswersRequest request (file_at files (path_of request)) text
+  pub is : IsRequest words request
+  pub answers : AnswersRequest request files text
 
--- the file's bytes have no words for a fault that stands in them
-pub record RefusesWords (request : Request) (bytes line : List ℕ) : Type 0 where
-  pub fault : LexFault
-  pub stands : IsFault bytes fault
-  pub line_is : line ≡ fault_line (module_name request) bytes fault
-
--- the file's bytes have words, but are no module for a fault that stands first in them
-pub record RefusesSyntax (request : Request) (bytes line : List ℕ) : Type 0 where
-  pub tokens : List Token
-  pub has : HasTokens bytes tokens
-  pub reading : ModuleReading
-  pub stands : HasModuleReading most_height tokens reading
-  pub line_is : Some line ≡ syntax_line (module_name request) bytes tokens reading
-
--- the file's bytes are a module, but aren't a first text
-pub record RefusesForm (bytes line : List ℕ) : Type 0 where
-  pub accepted : IsModuleText bytes
-  pub none : (name : List ℕ) (term : Term) → IsFirstText bytes name term → ⊥
+-- there are several modules, or the one isn't a first text
+pub record RefusesForm (members : List Member) (line : List ℕ) : Type 0 where
+  pub none : (member : Member) (name : List ℕ) (term : Term) → members ≡ member ∷ [] →
+      IsFirstText member.text name term → ⊥
   pub line_is : line ≡ not_built_line
 
--- the file is a first text of another material
-pub record RefusesMaterial (request : Request) (bytes line : List ℕ) : Type 0 where
-  pub accepted : IsModuleText bytes
+-- there is one module, which is a first text of another material
+pub record RefusesMaterial (material : List ℕ) (members : List Member) (line : List ℕ) : Type 0 where
+  pub member : Member
+  pub only : members ≡ member ∷ []
   pub name : List ℕ
   pub term : Term
-  pub first : IsFirstText bytes name term
-  pub other : name ≢ request.material
+  pub first : IsFirstText member.text name term
+  pub other : name ≢ material
   pub line_is : line ≡ material_unknown_line
 
--- the line of a request whose module's file has these bytes
-abbrev pub RefusesBytes : Request → List ℕ → List ℕ → Type 0
-RefusesBytes request bytes line =
-    RefusesWords request bytes line
-    ⊎ (RefusesSyntax request bytes line ⊎ (RefusesForm bytes line ⊎ RefusesMaterial request bytes line))
+-- the line of a task over modules that are loaded
+abbrev pub RefusesTask : Task → List Member → List ℕ → Type 0
+RefusesTask (task.Instance own material) members line =
+    RefusesForm members line ⊎ RefusesMaterial material members line
+RefusesTask (task.Check modules) members line = ⊥
 
--- the line of a request whose module has no file, too long a one, or one that isn't a first text of the
--- material
-abbrev pub RefusesRequest : Request → Option (List ℕ) → List ℕ → Type 0
-RefusesRequest request None line = line ≡ absent_line (module_name request)
-RefusesRequest request (Some bytes) line =
-    ((most_module < length bytes) × (line ≡ too_long_line (module_name request)))
-    ⊎ ((length bytes ≤ most_module) × RefusesBytes request bytes line)
+-- the modules that a request asks for can't be loaded
+pub record RefusesLoad (request : Request) (files : List File) (line : List ℕ) : Type 0 where
+  pub fault : LoadFault
+  pub stands : HasLoadFault (packages_of request.roots files) (asked request.task) fault
+  pub line_is : line ≡ load_line fault
+
+-- they are loaded, and the task is refused
+pub record RefusesLoaded (request : Request) (files : List File) (line : List ℕ) : Type 0 where
+  pub members : List Member
+  pub loaded : AreLoaded (packages_of request.roots files) (asked request.task) members
+  pub refuses : RefusesTask request.task members line
+
+abbrev pub RefusesRequest : Request → List File → List ℕ → Type 0
+RefusesRequest request files line = RefusesLoad request files line ⊎ RefusesLoaded request files line
 
 -- words that are a request are refused with this line
 pub record RefusesAsked (words : List (List ℕ)) (files : List File) (line : List ℕ) : Type 0 where
   pub request : Request
-  pub asked : IsRequest words request
-  pub refuses : RefusesRequest request (file_at files (path_of request)) line
+  pub is : IsRequest words request
+  pub refuses : RefusesRequest request files line
 
 -- the refusal: its status and its line
 abbrev pub Refusal : List (List ℕ) → List File → Status → List ℕ → Type 0

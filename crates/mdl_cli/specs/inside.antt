@@ -1,5 +1,3 @@
-pub mod Asked
-pub mod Asking
 pub mod Delivery
 pub mod Gives
 pub mod GraphLines

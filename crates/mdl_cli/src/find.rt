@@ -1,173 +1,197 @@
-ghost use Rattle.std.specs.Prelude.{◌≡◌, ◌≤◌, map, length, string_bytes, IfOk, IsUtf8};
+ghost use Rattle.std.specs.Prelude.{◌≡◌, ◌++◌, ◌≤◌, map, length, string_bytes, IfOk};
 ghost use Rattle.std.specs.List.{AllByRecursion};
 ghost use Rattle.type_rules.specs.Terms.{IsTyped};
-ghost use Rattle.mdl_lexer.specs.Lexes.{HasTokens};
-ghost use Rattle.mdl_lexer.specs.Places.{HasPlace, IsPlace};
-ghost use Rattle.mdl_cli.specs.Request.{material_name, module_name};
+ghost use Rattle.module_set.specs.Names.{written_name};
 ghost use Rattle.mdl_cli.specs.Words.{kinds_of};
 ghost use Rattle.mdl_cli.specs.GraphText.{instance_text};
+ghost use Rattle.mdl_cli.specs.Outcome.{asked, material_name, ok_text};
 ghost use Rattle.mdl_cli.specs.inside.Trees.{term_of};
-ghost use Rattle.mdl_cli.specs.inside.Asked.{request_value};
-ghost use Rattle.mdl_cli.specs.inside.Delivery.{Finds, FindsAt, FindsIn, FindsInWords};
-ghost use Rattle.mdl_cli.specs.Syntax.{byte_of};
-ghost use Rattle.mdl_cli.specs.inside.Delivery.{RefusesFault, RefusesSyntaxFault, Told};
+ghost use Rattle.mdl_cli.specs.inside.Delivery.{Finds, FindsAt, FindsIn, FindsInText, FindsInTexts, FindsInWords};
+ghost use Rattle.mdl_cli.specs.inside.Delivery.{Refuses, Told, Given, WithoutWords, AreShort};
 
 use crate::answer::Answer;
 use crate::first_text::read_first;
-use crate::graph_text::write_instance;
-use crate::lines::{
-    absent_line, left_out_line, material_unknown_line, not_utf8_line, site_line, too_long_line,
-};
+use crate::graph_text::{push_number, write_instance};
+use crate::lines::{load_line, material_unknown_line, push_name, push_part};
 use crate::put::put_tree;
-use crate::request::{Request, names_command, read_request};
 use crate::terms::ReadError;
 use crate::tree::Tree;
-use case_table::OutOfMemory;
+use case_table::{OutOfMemory, Text};
+use command_words::{Request, Task, names_command, read_request};
 use dag_store::Store;
-use io_edge::{Read, Source};
-use mdl_grammar::{ParseFault, parse_module};
+use io_edge::{Gate, Source};
 use mdl_lexer::{LexFault, Token, lex};
+use module_loader::{LoadFault, load};
+use module_set::{ModuleName, ModuleSet};
 use std::alloc::{AllocError, Global};
-
-/// The most bytes of a module's file.
-const MOST_MODULE: usize = 4_194_304;
+use std::thread::Threads;
 
 /// What is found for a command line.
-pub fn find_answer<S: Source>(alloc: Global, words: &[String], source: &mut S) -> Answer
+pub fn find_answer<R: Threads + Sync, S: Source, G: Gate>(
+    rt: &R,
+    alloc: Global,
+    words: &[String],
+    source: &mut S,
+    gate: &G,
+) -> Answer
     ensures { Finds (map string_bytes words.now) (S.state source.old) (S.state source.new) result }
 {
     if !names_command(words) {
         return Answer::Usage;
     }
     match read_request(alloc, words) {
-        Ok(Some(request)) => find_instance(alloc, &request, source),
+        Ok(Some(request)) => find(rt, alloc, &request, source, gate),
         Ok(None) => Answer::Usage,
         Err(_) => Answer::OutOfMemory,
     }
 }
 
-/// What is found for a request for an instance.
-fn find_instance<S: Source>(alloc: Global, request: &Request<'_>, source: &mut S) -> Answer
-    ensures { FindsAt (request_value request.now) (S.state source.old) (S.state source.new) result }
+/// What is found for a request.
+fn find<R: Threads + Sync, S: Source, G: Gate>(
+    rt: &R,
+    alloc: Global,
+    request: &Request,
+    source: &mut S,
+    gate: &G,
+) -> Answer
+    ensures { FindsAt request.now (S.state source.old) (S.state source.new) result }
 {
-    let Ok(path) = request.path(alloc) else {
+    let Ok(roots) = strings(alloc, request.roots.list()) else {
         return Answer::OutOfMemory;
     };
-    match source.read(alloc, path.as_str(), MOST_MODULE) {
-        Read::Found(bytes) => find_in(alloc, request, bytes.list()),
-        Read::Absent => refused(absent_line(alloc, request)),
-        Read::TooLong => refused(too_long_line(alloc, request)),
-        Read::Failed => Answer::ReadFault,
-        Read::OutOfMemory => Answer::OutOfMemory,
+    let Ok(first) = asked(alloc, &request.task) else {
+        return Answer::OutOfMemory;
+    };
+    match load(
+        rt,
+        alloc,
+        source,
+        &roots,
+        &first,
+        request.workers as usize,
+        gate,
+    ) {
+        Ok(set) => find_in(alloc, &request.task, &set),
+        Err(fault) => refuse(alloc, &fault),
     }
 }
 
-/// What is found for a request in its module's file.
-fn find_in(alloc: Global, request: &Request<'_>, bytes: &[u8]) -> Answer
+fn strings(alloc: Global, texts: &[Text]) -> Result<Vec<String>, AllocError>
+    ensures { IfOk result (λ all. map string_bytes all.items ≡ texts.now) }
+{
+    let mut all = Vec::new(alloc);
+    for text in texts {
+        all.push(String::from_str(alloc, text.as_str())?)?;
+    }
+    Ok(all)
+}
+
+/// The modules that a task asks for.
+fn asked(alloc: Global, task: &Task) -> Result<Vec<ModuleName>, AllocError>
+    ensures { IfOk result (λ names. names.items ≡ asked task.now) }
+{
+    match task {
+        Task::Instance { module, .. } => {
+            let name = module.copy(alloc)?;
+            let mut names = Vec::new(alloc);
+            names.push(name)?;
+            Ok(names)
+        }
+        Task::Check { modules } => copies(alloc, modules.list()),
+    }
+}
+
+fn copies(alloc: Global, names: &[ModuleName]) -> Result<Vec<ModuleName>, AllocError>
+    ensures { IfOk result (λ copied. copied.items ≡ names.now) }
+{
+    let mut copied = Vec::new(alloc);
+    for name in names {
+        let one = name.copy(alloc)?;
+        copied.push(one)?;
+    }
+    Ok(copied)
+}
+
+/// The refusal of modules that can't be loaded.
+fn refuse(alloc: Global, fault: &LoadFault) -> Answer
+    ensures { Refuses fault.now result }
+{
+    match fault {
+        LoadFault::ReadFault => Answer::ReadFault,
+        LoadFault::OutOfMemory => Answer::OutOfMemory,
+        _ => refused(load_line(alloc, fault)),
+    }
+}
+
+/// What is found for a task in a set that is loaded.
+fn find_in(alloc: Global, task: &Task, set: &ModuleSet) -> Answer
+    requires { AreShort set.now }
+    ensures { FindsIn task.now set.now result }
+{
+    match task {
+        Task::Instance { module, material } => {
+            find_instance(alloc, module, material, set.texts.list())
+        }
+        Task::Check { .. } => told(ok_text(alloc, set.names.list().len())),
+    }
+}
+
+/// The text for so many modules that are in order.
+fn ok_text(alloc: Global, count: usize) -> Result<Vec<u8>, AllocError>
+    ensures { IfOk result (λ text. text.items ≡ ok_text count) }
+{
+    let mut text = Vec::from_slice(alloc, b"ok ")?;
+    push_number(&mut text, count)?;
+    text.extend_from_slice(b"\n")?;
+    Ok(text)
+}
+
+/// What is found for a material in texts.
+fn find_instance(alloc: Global, own: &ModuleName, material: &Text, texts: &[Text]) -> Answer
+    requires { AllByRecursion (λ text. length text ≤ 4194304) texts.now }
+    ensures { FindsInTexts (material_name own.now material.now) material.now texts.now result }
+{
+    let [text] = texts else {
+        return Answer::NotBuilt;
+    };
+    find_in_text(alloc, own, material, text.as_str().as_bytes())
+}
+
+/// What is found for a material in a text.
+fn find_in_text(alloc: Global, own: &ModuleName, material: &Text, bytes: &[u8]) -> Answer
     requires { length bytes.now ≤ 4194304 }
-    ensures { FindsIn (request_value request.now) bytes.now result }
+    ensures { FindsInText (material_name own.now material.now) material.now bytes.now result }
 {
     match lex(alloc, bytes) {
-        Ok(tokens) => find_in_words(alloc, request, bytes, &tokens),
-        Err(fault) => refuse_words(alloc, request, bytes, fault),
+        Ok(tokens) => find_in_words(alloc, own, material, &tokens),
+        Err(fault) => without_words(fault),
     }
 }
 
-/// What is found for a request in the words of its module's file.
-fn find_in_words(alloc: Global, request: &Request<'_>, bytes: &[u8], words: &[Token]) -> Answer
-    requires words { HasTokens bytes.now words.now }
-    requires places { AllByRecursion (λ token. IsPlace bytes.now token.at) words.now }
-    requires short { length bytes.now ≤ 4194304 }
-    ensures { FindsIn (request_value request.now) bytes.now result }
+/// What is found in a text without words.
+fn without_words(fault: LexFault) -> Answer
+    ensures { WithoutWords fault result }
 {
-    match parse_module(alloc, words) {
-        Ok(_module) => find_in_module(alloc, request, words),
-        Err(fault) => refuse_syntax(alloc, request, bytes, words, fault),
+    match fault {
+        LexFault::NotUtf8 { .. } | LexFault::BadToken { .. } | LexFault::IntRange { .. } => {
+            Answer::NotBuilt
+        }
+        LexFault::OutOfMemory => Answer::OutOfMemory,
     }
 }
 
-/// What is found for a request in the words of a module that is accepted.
-fn find_in_module(alloc: Global, request: &Request<'_>, words: &[Token]) -> Answer
-    ensures { FindsInWords (request_value request.now) (kinds_of words.now) result }
+/// What is found for a material in the words of a text.
+fn find_in_words(alloc: Global, own: &ModuleName, material: &Text, words: &[Token]) -> Answer
+    ensures { FindsInWords (material_name own.now material.now) material.now (kinds_of words.now) result }
 {
     match read_first(alloc, words) {
-        Ok(first) if first.name != request.material() => refused(material_unknown_line(alloc)),
-        Ok(first) => match instance_of(alloc, request, &first.tree) {
+        Ok(first) if first.name != material.as_str() => refused(material_unknown_line(alloc)),
+        Ok(first) => match instance_of(alloc, own, material, &first.tree) {
             Ok(text) => Answer::Text(text),
             Err(OutOfMemory) => Answer::OutOfMemory,
         },
         Err(ReadError::NotFirst) => Answer::NotBuilt,
         Err(ReadError::OutOfMemory) => Answer::OutOfMemory,
-    }
-}
-
-/// The refusal of a module whose bytes have no words.
-fn refuse_words(alloc: Global, request: &Request<'_>, bytes: &[u8], fault: LexFault) -> Answer
-    requires place { HasPlace bytes.now fault }
-    requires short { length bytes.now ≤ 4194304 }
-    ensures { RefusesFault (module_name (request_value request.now)) bytes.now fault result }
-{
-    match fault {
-        LexFault::NotUtf8 { at } => refused(not_utf8_line(alloc, request, bytes, at)),
-        LexFault::BadToken { at } => {
-            refused(site_line(alloc, b"error 15 BadToken ", request, bytes, at))
-        },
-        LexFault::IntRange { at } => {
-            refused(site_line(alloc, b"error 16 IntRange ", request, bytes, at))
-        },
-        LexFault::OutOfMemory => Answer::OutOfMemory,
-    }
-}
-
-/// The refusal of a module whose words aren't accepted.
-fn refuse_syntax(
-    alloc: Global,
-    request: &Request<'_>,
-    bytes: &[u8],
-    words: &[Token],
-    fault: ParseFault,
-) -> Answer
-    requires text { IsUtf8 bytes.now }
-    requires places { AllByRecursion (λ token. IsPlace bytes.now token.at) words.now }
-    requires short { length bytes.now ≤ 4194304 }
-    ensures { RefusesSyntaxFault (module_name (request_value request.now)) bytes.now words.now fault result }
-{
-    match fault {
-        ParseFault::BadSyntax { at, .. } => {
-            let at = byte_of(bytes, words, at);
-            refused(site_line(alloc, b"error 17 BadSyntax ", request, bytes, at))
-        }
-        ParseFault::TooDeep { at } => {
-            let at = byte_of(bytes, words, at);
-            refused(site_line(alloc, b"error 18 TooDeep ", request, bytes, at))
-        }
-        ParseFault::StatementBody { at } => {
-            let at = byte_of(bytes, words, at);
-            refused(site_line(alloc, b"error 19 StatementBody ", request, bytes, at))
-        }
-        ParseFault::LeftOut { at, word } => {
-            let at = byte_of(bytes, words, at);
-            refused(left_out_line(alloc, request, bytes, at, word.as_str()))
-        }
-        ParseFault::Version { at } => {
-            let at = byte_of(bytes, words, at);
-            refused(site_line(alloc, b"error 21 Version ", request, bytes, at))
-        }
-        ParseFault::OutOfMemory => Answer::OutOfMemory,
-    }
-}
-
-/// The byte at which the word of this number begins, where the text ends behind the last one.
-fn byte_of(bytes: &[u8], words: &[Token], number: u32) -> u32
-    requires text { IsUtf8 bytes.now }
-    requires places { AllByRecursion (λ token. IsPlace bytes.now token.at) words.now }
-    requires short { length bytes.now ≤ 4194304 }
-    ensures is { result ≡ byte_of bytes.now words.now number }
-    ensures place { IsPlace bytes.now result }
-{
-    match words.get(number as usize) {
-        Some(word) => word.at,
-        None => bytes.len() as u32,
     }
 }
 
@@ -181,15 +205,40 @@ fn refused(line: Result<Vec<u8>, AllocError>) -> Answer
     }
 }
 
+/// The answer of this text, if there was memory for it.
+fn told(text: Result<Vec<u8>, AllocError>) -> Answer
+    ensures { Given text result }
+{
+    match text {
+        Ok(text) => Answer::Text(text),
+        Err(_) => Answer::OutOfMemory,
+    }
+}
+
 /// The text of the instance that a tree is.
-fn instance_of(alloc: Global, request: &Request<'_>, tree: &Tree) -> Result<Vec<u8>, OutOfMemory>
+fn instance_of(
+    alloc: Global,
+    own: &ModuleName,
+    material: &Text,
+    tree: &Tree,
+) -> Result<Vec<u8>, OutOfMemory>
     requires { IsTyped (term_of tree.now) }
     ensures { IfOk result
-        (λ text. text.items ≡ instance_text (material_name (request_value request.now)) (term_of tree.now)) }
+        (λ text. text.items ≡ instance_text (material_name own.now material.now) (term_of tree.now)) }
 {
-    let name = request.material_name(alloc)?;
+    let name = material_name(alloc, own, material)?;
     let mut store = Store::new(alloc)?;
     put_tree(alloc, &mut store, tree)?;
     let text = write_instance(alloc, &name, &store)?;
     Ok(text)
+}
+
+/// The absolute name of a material.
+fn material_name(alloc: Global, own: &ModuleName, material: &Text) -> Result<Vec<u8>, AllocError>
+    ensures { IfOk result (λ name. name.items ≡ material_name own.now material.now) }
+{
+    let mut name = Vec::new(alloc);
+    push_name(&mut name, own)?;
+    push_part(&mut name, material)?;
+    Ok(name)
 }

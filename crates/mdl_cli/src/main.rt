@@ -9,7 +9,6 @@ mod graph_text;
 mod lines;
 mod names;
 mod put;
-mod request;
 mod run;
 mod status;
 mod terms;

@@ -8,8 +8,9 @@ ghost use Rattle.mdl_cli.specs.inside.Delivery.{Tells, Answers, Delivers};
 use crate::answer::Answer;
 use crate::find::find_answer;
 use crate::status::Status;
+use command_words::one_request;
 use io_edge::{Gate, Sink, Source, write_whole};
-use mdl_grammar::one_module_reading;
+use module_loader::one_load;
 use std::alloc::Global;
 use std::thread::Threads;
 
@@ -17,13 +18,13 @@ use std::thread::Threads;
 /// to `diag`.
 /// The text is written only once the whole of it is known.
 pub fn run<R: Threads + Sync, S: Source, O: Sink, D: Sink, G: Gate>(
-    _rt: &R,
+    rt: &R,
     alloc: Global,
     words: &[String],
     source: &mut S,
     out: &mut O,
     diag: &mut D,
-    _gate: &G,
+    gate: &G,
 ) -> Status
     ensures headline { Headline (record {
       words = map string_bytes words.now;
@@ -47,7 +48,7 @@ pub fn run<R: Threads + Sync, S: Source, O: Sink, D: Sink, G: Gate>(
     }) }
 {
     one_outcome();
-    let answer = find_answer(alloc, words, source);
+    let answer = find_answer(rt, alloc, words, source, gate);
     deliver(answer, out, diag)
 }
 
@@ -97,5 +98,6 @@ pub fn tell_out_of_memory<D: Sink>(diag: &mut D) -> Status
 pub fn one_outcome()
     ensures { (words : List (List ℕ)) (files : List File) → OneOutcome words files }
 {
-    one_module_reading();
+    one_request();
+    one_load();
 }

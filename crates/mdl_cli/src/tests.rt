@@ -60,7 +60,7 @@ fn words(alloc: Global, list: &[&str]) -> Result<Vec<String>, Fail> {
 fn answers_and_refusals(rt: HostRuntime) -> Result<(), Fail> {
     let alloc = rt.alloc();
     let own = ["instance", "r", "::m::m"];
-    let cases: [(&[&str], &str, Status, &str, &str); 16] = [
+    let cases: [(&[&str], &str, Status, &str, &str); 18] = [
         (&own, FIRST, Status::Done, GRAPH, ""),
         (&own, "mdl 1.6;", Status::Refused, "", "error 9 NotBuilt\n"),
         (
@@ -134,11 +134,11 @@ fn answers_and_refusals(rt: HostRuntime) -> Result<(), Fail> {
             "error 1 Usage\n",
         ),
         (
-            &["instance", "r:s", "::m::m"],
+            &["instance", "s:r", "::m::m", "--workers=8"],
             FIRST,
-            Status::Usage,
+            Status::Done,
+            GRAPH,
             "",
-            "error 1 Usage\n",
         ),
         (
             &["instance", "r", "::m::m", "--workers", "0"],
@@ -147,13 +147,15 @@ fn answers_and_refusals(rt: HostRuntime) -> Result<(), Fail> {
             "",
             "error 1 Usage\n",
         ),
+        (&["check", "r", "::m"], FIRST, Status::Done, "ok 1\n", ""),
         (
-            &["check", "r", "::m"],
+            &["check", "r", "::df", "--workers", "2", "::m"],
             FIRST,
-            Status::Usage,
+            Status::Done,
+            "ok 2\n",
             "",
-            "error 1 Usage\n",
         ),
+        (&["check", "r"], FIRST, Status::Usage, "", "error 1 Usage\n"),
         (&[], FIRST, Status::Usage, "", "error 1 Usage\n"),
     ];
     for (list, text, status, graph, line) in cases {
@@ -175,6 +177,100 @@ fn answers_and_refusals(rt: HostRuntime) -> Result<(), Fail> {
         assert_eq!(rt; diag.taken(), line.as_bytes());
     }
     one_outcome();
+    Ok(())
+}
+
+/// Files as `path=text` with `|` between and `@` for a line feed.
+fn files_of(alloc: Global, written: &str) -> Result<Vec<(String, Vec<u8>)>, Fail> {
+    let mut files = Vec::new(alloc);
+    for file in written.split("|") {
+        if let Some((path, text)) = file.split_once("=") {
+            let text = text.replace(alloc, "@", "\n")?;
+            let bytes = Vec::from_slice(alloc, text.as_bytes())?;
+            files.push((String::from_str(alloc, path)?, bytes))?;
+        }
+    }
+    Ok(files)
+}
+
+#[test]
+fn packages(rt: HostRuntime) -> Result<(), Fail> {
+    let alloc = rt.alloc();
+    // files, the words behind the roots, the answer, the line
+    let cases: [(&str, &[&str], &str, &str); 9] = [
+        (
+            "r/shop/paint.mdl=mdl 1.6;@import ::df::*;@import ::state::*;@using ::anno import *;@",
+            &["check", "r", "::shop::paint"],
+            "ok 4\n",
+            "",
+        ),
+        (
+            "",
+            &["check", "r", "::none"],
+            "",
+            "error 10 Absent ::none\n",
+        ),
+        (
+            "r/m.mdl=mdl 1.6;@import ..::x::*;@",
+            &["check", "r", "::m"],
+            "",
+            "error 10 Absent ::x from ::m 2:8\n",
+        ),
+        (
+            "r/a.mdl=mdl 1.6;@import ::b::*;@|r/b.mdl=mdl 1.6;@import ::a::*;@",
+            &["check", "r", "::a"],
+            "",
+            "error 13 Cycle ::a ::b\n",
+        ),
+        (
+            "r/m.mdl=mdl 1.6;@import ::q::*, ::z::*, ::p::*;@|r/q.mdl=mdl 1.6;@$@|r/p.mdl=mdl 1.6;@$@",
+            &["check", "r", "::m", "--workers", "8"],
+            "",
+            "error 15 BadToken ::q 2:1\n",
+        ),
+        (
+            "r/p/m.mdl=mdl 1.6;@import x::*;@|s/p/x.mdl=mdl 1.7;@",
+            &["check", "r:s", "::p::m"],
+            "",
+            "error 21 Version ::p::x 1:5\n",
+        ),
+        (
+            "r/m.mdl=mdl 1.6;@import ::df::*;@",
+            &["instance", "r", "::m::m"],
+            "",
+            "error 9 NotBuilt\n",
+        ),
+        (
+            "r/m.mdl=mdl 1.6;@import ::none::*;@",
+            &["instance", "r", "::m::m"],
+            "",
+            "error 10 Absent ::none from ::m 2:8\n",
+        ),
+        ("", &["instance", "r", "::df::m"], "", "error 9 NotBuilt\n"),
+    ];
+    for (files, list, text, line) in cases {
+        let words = words(alloc, list)?;
+        let mut source = SteadySource::new(files_of(alloc, files)?);
+        let mut out = SteadySink::new(alloc, 64)?;
+        let mut diag = SteadySink::new(alloc, 64)?;
+        let got = run(
+            &rt,
+            alloc,
+            &words,
+            &mut source,
+            &mut out,
+            &mut diag,
+            &NoGate,
+        );
+        let status = if line.is_empty() {
+            Status::Done
+        } else {
+            Status::Refused
+        };
+        assert_eq!(rt; got, status, "{line}");
+        assert_eq!(rt; out.taken(), text.as_bytes());
+        assert_eq!(rt; diag.taken(), line.as_bytes());
+    }
     Ok(())
 }
 

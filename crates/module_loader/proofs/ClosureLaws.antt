@@ -1,5 +1,5 @@
 -- The closure, module by module.
-use Rattle.std.proofs.Common.{◌≡◌, ◌⊎◌, inl, inr, ℕ, ◌≤◌, ◌<◌, List, [], ◌∷◌, ◌++◌, length}
+use Rattle.std.proofs.Common.{◌≡◌, inl, inr, ℕ, ◌≤◌, ◌<◌, List, [], ◌∷◌, ◌++◌, length}
 use Rattle.std.proofs.Common.{slice_get, filter_map, flat_map, find, cond, refl, sym, ap, ◌∙◌, subst, arith}
 use Rattle.std.proofs.Common.{Option, Some, None, is_none, is_some, if◌then◌else◌, Result, Ok, Err, IfErr}
 use Rattle.std.specs.List.{AllByRecursion, list_any, cons_option}

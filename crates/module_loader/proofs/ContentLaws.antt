@@ -1,6 +1,6 @@
 -- Reads, each path once.
 use Rattle.std.proofs.Common.{◌≡◌, ℕ, suc, zero, ◌≤◌, ◌<◌, ◌==◌, Bool, true, false, List, [], ◌∷◌, ◌++◌, length}
-use Rattle.std.proofs.Common.{slice_get, position, nat_lt, not, ◌+◌, ◌||◌, if◌then◌else◌}
+use Rattle.std.proofs.Common.{slice_get, position, nat_lt, not, ◌+◌, ◌||◌}
 use Rattle.std.proofs.Common.{refl, sym, ap, ◌∙◌, subst, arith, Option, Some, None, Result, Ok, Err, is_some, is_ok}
 use Rattle.std.proofs.Common.{IfSome}
 use Rattle.std.proofs.lemmas.List.{append-nil}

@@ -1,5 +1,5 @@
 -- Texts of modules that are loaded.
-use Rattle.std.proofs.Common.{◌≡◌, ℕ, ◌<◌, List, ◌∙◌, ap, length, Some, is_some, true, sym}
+use Rattle.std.proofs.Common.{◌≡◌, ℕ, ◌<◌, List, ap, length, Some, is_some, true, sym}
 use Rattle.std.specs.Option.{option_or}
 use Rattle.module_set.specs.declared.module_name.ModuleName.{ModuleName}
 use Rattle.module_loader.specs.declared.files.Located.TheVariants as located

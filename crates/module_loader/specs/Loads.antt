@@ -1,5 +1,5 @@
 -- What a load answers.
-use Rattle.std.specs.Prelude.{◌≡◌, ⊤, ℕ, ◌≤◌, true, List, [], ◌∷◌, None, IfSome, length, map}
+use Rattle.std.specs.Prelude.{◌≡◌, ⊤, ℕ, ◌≤◌, true, List, [], None, IfSome, length, map}
 use Rattle.std.specs.List.{AllByRecursion}
 use Rattle.case_table.specs.Counts.{Rose}
 use Rattle.io_edge.specs.Source.{File, SourceState}

@@ -1,30 +1,35 @@
 -- What the code finds before it writes, and what it does with it.
-use Rattle.std.specs.Prelude.{◌≡◌, ◌≢◌, ◌⊎◌, ◌++◌, ℕ, true, false, codes, List, Result, Ok, Err}
+use Rattle.std.specs.Prelude.{◌≡◌, ◌≢◌, ◌⊎◌, ◌≤◌, ℕ, true, false, List, [], ◌∷◌, length, Result, Ok, Err}
 use Rattle.std.specs.declared.vec.Vec.{Vec}
 use Rattle.std.specs.declared.alloc.Global.{Global}
 use Rattle.std.specs.declared.alloc.AllocError.{AllocError}
+use Rattle.std.specs.List.{AllByRecursion}
 use Rattle.case_table.specs.Counts.{Rose}
-use Rattle.io_edge.specs.Source.{SourceState, File, file_at}
+use Rattle.io_edge.specs.Source.{SourceState, File}
 use Rattle.io_edge.specs.Sink.{SinkState, WroteAll, WrotePart}
+use Rattle.type_rules.specs.Terms.{Term}
+use Rattle.mdl_lexer.specs.declared.token.Kind.{Kind}
+use Rattle.mdl_lexer.specs.declared.token.LexFault.{LexFault}
+use Rattle.mdl_lexer.specs.declared.token.LexFault.TheVariants as lexical
+use Rattle.module_set.specs.declared.set.ModuleSet.{ModuleSet}
+use Rattle.module_loader.specs.declared.fault.LoadFault.{LoadFault}
+use Rattle.module_loader.specs.declared.fault.LoadFault.TheVariants as fault
+use Rattle.module_loader.specs.Files.{most_module}
+use Rattle.module_loader.specs.Loads.{MayHold}
+use Rattle.command_words.specs.declared.request.Request.{Request}
+use Rattle.command_words.specs.declared.request.Task.{Task}
+use Rattle.command_words.specs.declared.request.Task.TheVariants as task
+use Rattle.command_words.specs.Requests.{names_command}
 use Rattle.mdl_cli.specs.declared.status.Status.{Status}
 use Rattle.mdl_cli.specs.declared.status.Status.TheVariants as status
 use Rattle.mdl_cli.specs.declared.answer.Answer.{Answer}
 use Rattle.mdl_cli.specs.declared.answer.Answer.TheVariants as answer
-use Rattle.type_rules.specs.Terms.{Term}
-use Rattle.mdl_lexer.specs.declared.token.Kind.{Kind}
-use Rattle.mdl_lexer.specs.declared.token.Token.{Token}
-use Rattle.mdl_lexer.specs.declared.token.LexFault.{LexFault}
-use Rattle.mdl_lexer.specs.declared.token.LexFault.TheVariants as fault
-use Rattle.expression_grammar.specs.declared.fault.ParseFault.{ParseFault}
-use Rattle.expression_grammar.specs.declared.fault.ParseFault.TheVariants as syntax
 use Rattle.mdl_cli.specs.FirstText.{AreFirstWords, IsFirstText}
 use Rattle.mdl_cli.specs.GraphText.{instance_text}
-use Rattle.mdl_cli.specs.Outcome.{AnswersRequest, RefusesRequest, RefusesBytes, IsModuleText}
-use Rattle.mdl_cli.specs.Request.{Request, names_command, material_name, path_of}
+use Rattle.mdl_cli.specs.Outcome.{AnswersRequest, RefusesRequest, material_name, ok_text}
 use Rattle.mdl_cli.specs.Lines.{usage_line, read_fault_line, write_fault_line, out_of_memory_line}
-use Rattle.mdl_cli.specs.Lines.{not_built_line, material_unknown_line, fault_line, site_at, site_word_at}
-use Rattle.mdl_cli.specs.Syntax.{byte_of}
-use Rattle.mdl_cli.specs.Headline.{AnswerText, RefusalLine, MayHold}
+use Rattle.mdl_cli.specs.Lines.{not_built_line, material_unknown_line, load_line}
+use Rattle.mdl_cli.specs.Headline.{AnswerText, RefusalLine}
 
 -- the cause of what was found
 abbrev pub HasCause : List (List ℕ) → SourceState → SourceState → Answer → Type 0
@@ -69,74 +74,87 @@ Delivers answer.ReadFault told out out_after diag diag_after =
 Delivers answer.OutOfMemory told out out_after diag diag_after =
     (out_after ≡ out) × Tells status.OutOfMemory out_of_memory_line told diag diag_after
 
--- what is found in the file of a request's module
-abbrev pub FindsIn : Request → List ℕ → Answer → Type 0
-FindsIn request bytes (answer.Text text) =
-    (term : Term) × (IsModuleText bytes × IsFirstText bytes request.material term)
-    × (text.items ≡ instance_text (material_name request) term)
-FindsIn request bytes (answer.Refused line) = RefusesBytes request bytes line.items
-FindsIn request bytes answer.NotBuilt = RefusesBytes request bytes not_built_line
-FindsIn request bytes answer.OutOfMemory = Unit {0}
-FindsIn request bytes _ = ⊥
-
--- the words are a first text of another material, whose line this is
-pub record OtherMaterial (request : Request) (words : List Kind) (line : List ℕ) : Type 0 where
-  pub name : List ℕ
-  pub term : Term
-  pub first : AreFirstWords words name term
-  pub other : name ≢ request.material
-  pub line_is : line ≡ material_unknown_line
-
--- what is found in the words of the file
-abbrev pub FindsInWords : Request → List Kind → Answer → Type 0
-FindsInWords request words (answer.Text text) =
-    (term : Term) × AreFirstWords words request.material term
-    × (text.items ≡ instance_text (material_name request) term)
-FindsInWords request words (answer.Refused line) = OtherMaterial request words line.items
-FindsInWords request words answer.NotBuilt = (name : List ℕ) (term : Term) → AreFirstWords words name term → ⊥
-FindsInWords request words answer.OutOfMemory = Unit {0}
-FindsInWords request words _ = ⊥
-
 -- a line, if there was memory for it
 abbrev pub IsLine : List ℕ → Answer → Type 0
 IsLine line (answer.Refused own) = own.items ≡ line
 IsLine line answer.OutOfMemory = Unit {0}
 IsLine line _ = ⊥
 
--- the same for a line that may have failed
+-- a text, if there was memory for it
+abbrev pub IsText : List ℕ → Answer → Type 0
+IsText text (answer.Text own) = own.items ≡ text
+IsText text answer.OutOfMemory = Unit {0}
+IsText text _ = ⊥
+
+-- the same for a line and a text that may have failed
 abbrev pub Told : Result (Vec ℕ Global) AllocError → Answer → Type 0
 Told (Ok line) found = found ≡ answer.Refused line
 Told (Err error) found = found ≡ answer.OutOfMemory
 
--- the line of a fault in a module's bytes, if there was memory for it
-abbrev pub RefusesFault : List ℕ → List ℕ → LexFault → Answer → Type 0
-RefusesFault name bytes fault.OutOfMemory found = found ≡ answer.OutOfMemory
-RefusesFault name bytes fault found = IsLine (fault_line name bytes fault) found
+abbrev pub Given : Result (Vec ℕ Global) AllocError → Answer → Type 0
+Given (Ok text) found = found ≡ answer.Text text
+Given (Err error) found = found ≡ answer.OutOfMemory
 
--- the line of a fault in a module's words, if there was memory for it
-abbrev pub RefusesSyntaxFault : List ℕ → List ℕ → List Token → ParseFault → Answer → Type 0
-RefusesSyntaxFault name bytes tokens (syntax.BadSyntax declaration at) found =
-    IsLine (codes "error 17 BadSyntax " ++ site_at name bytes (byte_of bytes tokens at)) found
-RefusesSyntaxFault name bytes tokens (syntax.TooDeep at) found =
-    IsLine (codes "error 18 TooDeep " ++ site_at name bytes (byte_of bytes tokens at)) found
-RefusesSyntaxFault name bytes tokens (syntax.StatementBody at) found =
-    IsLine (codes "error 19 StatementBody " ++ site_at name bytes (byte_of bytes tokens at)) found
-RefusesSyntaxFault name bytes tokens (syntax.LeftOut at word) found =
-    IsLine (codes "error 20 LeftOut " ++ site_word_at name bytes (byte_of bytes tokens at) word) found
-RefusesSyntaxFault name bytes tokens (syntax.Version at) found =
-    IsLine (codes "error 21 Version " ++ site_at name bytes (byte_of bytes tokens at)) found
-RefusesSyntaxFault name bytes tokens syntax.OutOfMemory found = found ≡ answer.OutOfMemory
+-- the refusal of modules that can't be loaded
+abbrev pub Refuses : LoadFault → Answer → Type 0
+Refuses fault.ReadFault found = found ≡ answer.ReadFault
+Refuses fault.OutOfMemory found = found ≡ answer.OutOfMemory
+Refuses fault found = IsLine (load_line fault) found
+
+-- what is found for a material of this absolute and this own name in a text
+abbrev pub FindsInText : List ℕ → List ℕ → List ℕ → Answer → Type 0
+FindsInText whole material bytes (answer.Text text) =
+    (term : Term) × IsFirstText bytes material term × (text.items ≡ instance_text whole term)
+FindsInText whole material bytes (answer.Refused line) =
+    (name : List ℕ) × ((term : Term) × IsFirstText bytes name term × (name ≢ material)
+    × (line.items ≡ material_unknown_line))
+FindsInText whole material bytes answer.NotBuilt =
+    (name : List ℕ) (term : Term) → IsFirstText bytes name term → ⊥
+FindsInText whole material bytes answer.OutOfMemory = Unit {0}
+FindsInText whole material bytes _ = ⊥
+
+-- what is found for it in texts
+abbrev pub FindsInTexts : List ℕ → List ℕ → List (List ℕ) → Answer → Type 0
+FindsInTexts whole material (bytes ∷ []) found = FindsInText whole material bytes found
+FindsInTexts whole material texts found = found ≡ answer.NotBuilt
+
+-- what is found in the words of a text
+abbrev pub FindsInWords : List ℕ → List ℕ → List Kind → Answer → Type 0
+FindsInWords whole material words (answer.Text text) =
+    (term : Term) × AreFirstWords words material term × (text.items ≡ instance_text whole term)
+FindsInWords whole material words (answer.Refused line) =
+    (name : List ℕ) × ((term : Term) × AreFirstWords words name term × (name ≢ material)
+    × (line.items ≡ material_unknown_line))
+FindsInWords whole material words answer.NotBuilt =
+    (name : List ℕ) (term : Term) → AreFirstWords words name term → ⊥
+FindsInWords whole material words answer.OutOfMemory = Unit {0}
+FindsInWords whole material words _ = ⊥
+
+-- what is found for a task in a set that is loaded
+abbrev pub FindsIn : Task → ModuleSet → Answer → Type 0
+FindsIn (task.Instance own material) set found =
+    FindsInTexts (material_name own material) material set.texts found
+FindsIn (task.Check modules) set found = IsText (ok_text (length set.names)) found
+
+-- what is found in a text without words
+abbrev pub WithoutWords : LexFault → Answer → Type 0
+WithoutWords lexical.OutOfMemory found = found ≡ answer.OutOfMemory
+WithoutWords _ found = found ≡ answer.NotBuilt
+
+-- the texts are short enough to be read
+abbrev pub AreShort : ModuleSet → Type 0
+AreShort set = AllByRecursion (λ text. length text ≤ most_module) set.texts
 
 -- what is found for a request over a source
 pub record FindsText (request : Request) (source : SourceState) (text : List ℕ) : Type 0 where
   pub files : List File
   pub held : MayHold source files
-  pub answers : AnswersRequest request (file_at files (path_of request)) text
+  pub answers : AnswersRequest request files text
 
 pub record FindsLine (request : Request) (source : SourceState) (line : List ℕ) : Type 0 where
   pub files : List File
   pub held : MayHold source files
-  pub refuses : RefusesRequest request (file_at files (path_of request)) line
+  pub refuses : RefusesRequest request files line
 
 abbrev pub FindsAt : Request → SourceState → SourceState → Answer → Type 0
 FindsAt request source after (answer.Text text) = FindsText request source text.items

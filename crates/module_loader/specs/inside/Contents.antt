@@ -1,5 +1,5 @@
 -- What was read, by path.
-use Rattle.std.specs.Prelude.{◌≡◌, ◌⊎◌, ℕ, ◌≤◌, ◌<◌, true, ⊤, List, [], ◌∷◌, ◌++◌, Option, Some, None, Result, Ok, Err}
+use Rattle.std.specs.Prelude.{◌≡◌, ℕ, ◌≤◌, ◌<◌, true, ⊤, List, [], ◌++◌, Option, Some, None, Result, Ok, Err}
 use Rattle.std.specs.Prelude.{length}
 use Rattle.std.specs.Prelude.{map, slice_get, ◌==◌}
 use Rattle.std.specs.List.{AllByRecursion, IsDistinct}

@@ -1,5 +1,5 @@
 use Rattle.std.proofs.Common.{◌∙◌, sym}
-use Rattle.mdl_cli.proofs.FindLaws.{finds_asked, finds_usage, unnamed_none, unread_none}
+use Rattle.mdl_cli.proofs.FindLaws.{finds_asked, finds_usage, unnamed_none}
 use Rattle.mdl_cli.proofs.find.find_answer.Goals as goal
 
 pub returns-then-not-names_command : goal.returns-then-not-names_command
@@ -9,8 +9,7 @@ returns-then-not-names_command g c =
 pub returns-in-Ok-Some : goal.returns-in-Ok-Some
 returns-in-Ok-Some g c =
     finds_asked _ _ _ _ _ (sym c.names_command.ensures ∙ c.if-not-names_command.false)
-    (sym (rw c.in-Ok-Some.field-0-is at c.in-Ok-Some.ensures)) c.find_instance.ensures
+    (rw c.in-Ok-Some.field-0-is at c.in-Ok-Some.ensures) c.find.ensures
 
 pub returns-in-Ok-None : goal.returns-in-Ok-None
-returns-in-Ok-None g c =
-    finds_usage _ _ _ (unread_none _ (rw c.in-Ok-None.field-0-is at c.in-Ok-None.ensures))
+returns-in-Ok-None g c = finds_usage _ _ _ (rw c.in-Ok-None.field-0-is at c.in-Ok-None.ensures)

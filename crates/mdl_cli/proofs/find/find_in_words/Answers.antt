@@ -1,16 +1,19 @@
-use Rattle.mdl_syntax.specs.Modules.{module_of}
-use Rattle.mdl_cli.specs.inside.Asked.{request_value}
-use Rattle.mdl_cli.proofs.FindLaws.{words_found, syntax_fault_found}
+use Rattle.std.proofs.Common.{◌∙◌, ap, sym, Err}
+use Rattle.std.specs.Cmp.Lexicographic.{bytes_decides}
+use Rattle.std.proofs.lemmas.Bool.{not-false}
+use Rattle.mdl_cli.specs.inside.Trees.{term_of}
 use Rattle.mdl_cli.proofs.find.find_in_words.Goals as goal
 
-pub returns-in-Ok : goal.returns-in-Ok
-returns-in-Ok c =
-    words_found (request_value c.args.request.now) c.args.bytes.now c.args.words.now
-    (module_of c.in-Ok._module) c.find_in_module.result c.requires.words c.in-Ok.ensures.tree
-    c.find_in_module.ensures
+pub returns-in-Ok-instance_of : goal.returns-in-Ok-instance_of
+returns-in-Ok-instance_of c =
+    let same = (bytes_decides c.in-Ok.first.name.now c.as_str.result.now).0
+    (not-false _ (sym c.ne.ensures ∙ c.if-ne.false)) in (
+      term_of c.in-Ok.first.tree,
+      rw (same, c.as_str.ensures) at c.in-Ok.ensures.first,
+      c.in-Ok-instance_of.ensures,
+    )
 
-pub returns-in-Err : goal.returns-in-Err
-returns-in-Err c =
-    syntax_fault_found (request_value c.args.request.now) c.args.bytes.now c.args.words.now
-    c.in-Err.fault c.refuse_syntax.result c.requires.words c.in-Err.ensures.fault
-    c.refuse_syntax.ensures
+pub returns-in-Err-NotFirst : goal.returns-in-Err-NotFirst
+returns-in-Err-NotFirst c =
+    c.read_first.ensures.not_first (c.in-Err-NotFirst.is
+    ∙ ap (λ error. Err error) c.in-Err-NotFirst.field-0-is)
