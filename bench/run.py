@@ -9,7 +9,10 @@ import sys
 import tempfile
 import time
 
-TOP = os.path.dirname(os.path.dirname(os.path.abspath(__file__)))
+sys.dont_write_bytecode = True
+
+from program import TOP
+
 PROGRAM = os.path.join(TOP, "crates", "mdl_cli", "out", "mdl_cli")
 FIRST_TEXT = os.path.join(TOP, "examples", "first", "m.mdl")
 MB = 1 << 20
@@ -58,12 +61,20 @@ def inputs(text):
     )
 
 
-def run_once(argv, out):
-    """The exit number, the wall time in seconds and the peak memory in bytes of one run."""
+def built():
+    """The program that is measured: the one that is named, or the one that is built here."""
+    program = os.path.abspath(sys.argv[1]) if len(sys.argv) > 1 else PROGRAM
+    if not os.access(program, os.X_OK):
+        sys.exit(f"{program} isn't there: build it by './mdl instance examples/first ::m::m'")
+    return program
+
+
+def run_once(argv, out, diag=None):
+    """The exit number, the wall time in seconds and the peak memory in bytes of one run that writes to these files."""
     start = time.perf_counter()
     pid = os.posix_spawn(argv[0], argv, os.environ, file_actions=[
         (os.POSIX_SPAWN_DUP2, out, 1),
-        (os.POSIX_SPAWN_DUP2, out, 2),
+        (os.POSIX_SPAWN_DUP2, out if diag is None else diag, 2),
     ])
     _, status, usage = os.wait4(pid, 0)
     return os.waitstatus_to_exitcode(status), time.perf_counter() - start, usage.ru_maxrss * 1024
@@ -83,9 +94,7 @@ def show(name, size, measured, growth=""):
 
 
 def main():
-    program = os.path.abspath(sys.argv[1]) if len(sys.argv) > 1 else PROGRAM
-    if not os.access(program, os.X_OK):
-        sys.exit(f"{program} isn't there: build it by './mdl instance examples/first ::m::m'")
+    program = built()
     with open(FIRST_TEXT, "rb") as file:
         text = file.read()
     wrong = []
