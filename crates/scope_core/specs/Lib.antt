@@ -1,0 +1,9 @@
+pub mod Entities
+pub mod PreludeEntities
+pub mod Brought
+pub mod Visible
+pub mod Types
+pub mod Standing
+pub mod ScopeFaults
+pub mod OneScopeFault
+pub mod inside
