@@ -12,11 +12,9 @@ use Rattle.std.proofs.lemmas.Bool.{and_parts, and_from, false≢true, true≢fal
 use Rattle.std.proofs.lemmas.Bool.{false_from_ne_true}
 use Rattle.std.proofs.lemmas.List.Folds.{list_any-append}
 use Rattle.std.proofs.lemmas.Option.{same_Some, none-some, slice_get-map}
-use Rattle.std.proofs.Math.Bool.{or-true}
+use Rattle.std.proofs.Math.Bool.{or-true, not-not}
 use Rattle.type_rules.specs.declared.ty.Ty.{Ty}
 use Rattle.type_rules.specs.Same.{same_type}
-use Rattle.scope_core.specs.declared.entity.Sort.{Sort}
-use Rattle.scope_core.specs.declared.entity.Sort.TheVariants as sort
 use Rattle.scope_core.specs.declared.tables.Table.{Table}
 use Rattle.scope_core.specs.declared.tables.Place.{Place}
 use Rattle.scope_core.specs.declared.declared.Takes as held_takes
@@ -27,61 +25,26 @@ use Rattle.scope_core.specs.Types.{is_callable, has_deferred, based_on}
 use Rattle.scope_core.specs.Standing.{is_prototype, is_definition, share_name, defines, stands, types_after}
 use Rattle.scope_core.specs.inside.Finding.{entity_at}
 use Rattle.scope_core.specs.inside.Holding.{Hold}
-use Rattle.scope_core.specs.inside.Settling.{is_prototype_of, is_own_prototype, others_of, only_place}
-use Rattle.scope_core.specs.inside.Settling.{likely_base, taken_at, same_number, same_place, is_definition_of}
-use Rattle.scope_core.specs.inside.Settling.{defines_at, stands_alone, takes_in, takes_at, defers, is_base_of}
-use Rattle.scope_core.specs.inside.Settling.{is_base_at}
+use Rattle.scope_core.specs.inside.Settling.{is_prototype_of, is_own_prototype, others_of, only_place, likely_base}
+use Rattle.scope_core.specs.inside.Settling.{taken_at, same_number, same_place, is_definition_of, defines_at}
+use Rattle.scope_core.specs.inside.Settling.{stands_alone, takes_in, takes_at, defers, is_base_of, is_base_at}
 use Rattle.scope_core.specs.inside.Pieces.{takes_of}
 use Rattle.scope_core.specs.inside.Scoping.{AreWritten}
 use Rattle.scope_core.specs.inside.Rounds.{declared_in, declared_at, entities_in, settled_count}
 use Rattle.scope_core.specs.inside.Rounds.{is_known_number, is_settled, AreKnown, is_out, FindsIn}
 use Rattle.scope_core.proofs.FoundIsLaws.{entity-is}
 use Rattle.scope_core.proofs.SameLaws.{types-decide}
-use Rattle.scope_core.proofs.VisibleLaws.{any-of, any-at, module-at}
+use Rattle.scope_core.proofs.MemberLaws.{any-of, any-at, filter-of, filter-has, heads}
+use Rattle.scope_core.proofs.VisibleLaws.{module-at, definition-stands}
 
 -- a prototype of a module
 abbrev pub is_own : ℕ → Declared → Bool
 is_own m one = is_prototype one.entity.sort && (one.entity.id.module == m)
 
-both-ways : (a b : Bool) → (a ≡ true → b ≡ true) → (b ≡ true → a ≡ true) → a ≡ b
+pub both-ways : (a b : Bool) → (a ≡ true → b ≡ true) → (b ≡ true → a ≡ true) → a ≡ b
 both-ways true b on back = sym (on refl)
 both-ways false true on back = back refl
 both-ways false false on back = refl
-
-twice-not : (b : Bool) → not (not b) ≡ true → b ≡ true
-twice-not true is = refl
-twice-not false is = is
-
--- members of lists
-pub of-kept : {A : Type 0} (keep : A → Bool) (all : List A) (i : ℕ) (one : A)
-    → slice_get (filter keep all) i ≡ Some one → (keep one ≡ true) × (j : ℕ) × (slice_get all j ≡ Some one)
-of-kept keep [] i one at = absurd (none-some one at)
-of-kept {A} keep (x ∷ all) i one at = by (keep x) refl i at (λ i at. of-kept keep all i one at)
-  where
-    by : (b : Bool) → keep x ≡ b → (i : ℕ)
-        → slice_get (if b then x ∷ filter keep all else filter keep all) i ≡ Some one
-        → ((i : ℕ) → slice_get (filter keep all) i ≡ Some one
-        → (keep one ≡ true) × (j : ℕ) × (slice_get all j ≡ Some one))
-        → (keep one ≡ true) × (j : ℕ) × (slice_get (x ∷ all) j ≡ Some one)
-    by true is zero at later = (ap keep (sym (same_Some x one at)) ∙ is, 0, at)
-    by true is (suc i) at later = let past = later i at in (past.0, suc past.1, past.2)
-    by false is i at later = let past = later i at in (past.0, suc past.1, past.2)
-
-has-kept : {A : Type 0} (keep : A → Bool) (all : List A) (j : ℕ) (one : A)
-    → slice_get all j ≡ Some one → keep one ≡ true → (h : ℕ) × (slice_get (filter keep all) h ≡ Some one)
-has-kept keep [] j one at is = absurd (none-some one at)
-has-kept {A} keep (x ∷ all) zero one at is = by (keep x) (ap keep (same_Some x one at) ∙ is)
-  where
-    by : (b : Bool) → b ≡ true
-        → (h : ℕ) × (slice_get (if b then x ∷ filter keep all else filter keep all) h ≡ Some one)
-    by true is = (0, at)
-    by false is = absurd (false≢true is)
-has-kept {A} keep (x ∷ all) (suc j) one at is = by (keep x) (has-kept keep all j one at is)
-  where
-    by : (b : Bool) → (h : ℕ) × (slice_get (filter keep all) h ≡ Some one)
-        → (h : ℕ) × (slice_get (if b then x ∷ filter keep all else filter keep all) h ≡ Some one)
-    by true later = (suc later.0, later.1)
-    by false later = later
 
 in-single : {A : Type 0} (b one : A) (h : ℕ) → slice_get (b ∷ []) h ≡ Some one → one ≡ b
 in-single b one zero at = sym (same_Some b one at)
@@ -91,21 +54,18 @@ in-single b one (suc h) at = absurd (none-some one at)
 only-kept : {A : Type 0} (keep : A → Bool) (all : List A) (b : A) (j : ℕ) (one : A) → filter keep all ≡ b ∷ []
     → slice_get all j ≡ Some one → keep one ≡ true → one ≡ b
 only-kept keep all b j one single at is =
-    let there = has-kept keep all j one at is in
+    let there = filter-has keep all j one at is in
     in-single b one there.0 (ap (λ l. slice_get l there.0) (sym single) ∙ there.1)
 
 none-kept : {A : Type 0} (keep : A → Bool) (all : List A) (j : ℕ) (one : A) → filter keep all ≡ []
     → slice_get all j ≡ Some one → keep one ≡ true → ⊥
 none-kept keep all j one none at is =
-    let there = has-kept keep all j one at is in
+    let there = filter-has keep all j one at is in
     none-some one (ap (λ l. slice_get l there.0) (sym none) ∙ there.1)
 
 abbrev pub behind : {A : Type 0} → List A → List A
 behind [] = []
 behind (one ∷ more) = more
-
-pub heads : {A : Type 0} (x y : A) (xs ys : List A) → x ∷ xs ≡ y ∷ ys → x ≡ y
-heads x y xs ys e = same_Some x y (ap (λ l. slice_get l 0) e)
 
 -- an entity that doesn't stand in its module is a prototype of it, and has a definition
 out-parts : (world : World) (pieces : List (List Declared)) (m k : ℕ) (one : Declared)
@@ -117,7 +77,7 @@ out-parts world pieces m k one out =
     let any = list_any (defines types one) (entities_in pieces) in
     let apart = and_parts (one.entity.id.module == m) (not (stands types (entities_in pieces) one)) out in
     let both = and_parts (is_prototype one.entity.sort) any
-    (twice-not (is_prototype one.entity.sort && any) apart.1) in
+    (sym (not-not (is_prototype one.entity.sort && any)) ∙ apart.1) in
     (and_from (is_prototype one.entity.sort) (one.entity.id.module == m) both.0 apart.0, both.1)
 
 own-out : (world : World) (pieces : List (List Declared)) (m k : ℕ) (one : Declared) → is_own m one ≡ true
@@ -144,21 +104,12 @@ definition-in world pieces closed m k places first later i one finds at out =
     let there = finds.named i some.0 one some.1 at some.2 own share in
     (there.0, some.1, there.1, some.3)
 
-definition-apart : (of : Sort) → is_definition of ≡ true → is_prototype of ≡ false
-definition-apart sort.Function is = refl
-definition-apart sort.Intrinsic is = absurd (false≢true is)
-definition-apart sort.Material is = refl
-definition-apart sort.Struct is = refl
-definition-apart sort.Enum is = refl
-definition-apart sort.EnumValue is = refl
-definition-apart sort.Annotation is = refl
-
 definition-not-own : (types : Declared → List Ty) (m : ℕ) (one d : Declared) → defines types one d ≡ true
     → not (is_own m d) ≡ true
 definition-not-own types m one d is =
     let part = (and_parts (is_definition d.entity.sort)
     (share_name one d && pointwise same_type (types one) (types d)) is).0 in
-    λ i. not (definition-apart d.entity.sort part i && (d.entity.id.module == m))
+    λ i. not (definition-stands d.entity.sort part i && (d.entity.id.module == m))
 
 -- entities and what is known of their places
 pub entity-there : (world : World) (tables : List Table) (pieces : List (List Declared)) (place : Place)
@@ -374,7 +325,7 @@ known-number None is = absurd (false≢true is)
 known-number (Some n) is = (n, refl)
 
 -- an entity at a place is one of all
-any-in : (test : Declared → Bool) (pieces : List (List Declared)) (n i : ℕ) (one : Declared)
+pub any-in : (test : Declared → Bool) (pieces : List (List Declared)) (n i : ℕ) (one : Declared)
     → declared_in (slice_get pieces n) i ≡ Some one → test one ≡ true → list_any test (entities_in pieces) ≡ true
 any-in test [] n i one at is = absurd (none-some one at)
 any-in test (piece ∷ pieces) zero i one at is =
@@ -470,7 +421,7 @@ defines-is world pieces closed tables taken keys m k places first later base b n
 
     in-first : (h : ℕ) × (slice_get first h ≡ Some b)
     in-first =
-        let found = of-kept (λ d. not (is_own m d)) first 0 b (ap (λ l. slice_get l 0) single) in
+        let found = filter-of (λ d. not (is_own m d)) first 0 b (ap (λ l. slice_get l 0) single) in
         (found.1, found.2)
 
     on : defines_at tables taken base place ≡ true → is_out world pieces m k one ≡ true
@@ -525,7 +476,7 @@ alone-is world pieces closed tables taken keys m k places first later base b num
     elsewhere : is_own m one ≡ true → same_place place base ≡ true → ⊥
     elsewhere own same =
         let e = same_Some one b (sym is ∙ ap (declared_at pieces) (same-place place base same) ∙ base-is.at) in
-        let kept = of-kept (λ d. not (is_own m d)) first 0 b (ap (λ l. slice_get l 0) single) in
+        let kept = filter-of (λ d. not (is_own m d)) first 0 b (ap (λ l. slice_get l 0) single) in
         false≢true ((λ j. not (sym (ap (is_own m) (sym e) ∙ own) j)) ∙ kept.0)
 
     by : (c : Bool) → is_own m one ≡ c

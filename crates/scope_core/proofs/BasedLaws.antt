@@ -30,24 +30,24 @@ use Rattle.scope_core.specs.Types.{based_on, types_in}
 use Rattle.scope_core.specs.Standing.{is_prototype, types_after, standing_after}
 use Rattle.scope_core.specs.inside.Finding.{placed, entity_at, found_places}
 use Rattle.scope_core.specs.inside.Holding.{open_pieces}
-use Rattle.scope_core.specs.inside.Settling.{is_prototype_of, is_own_prototype, others_of, likely_base}
-use Rattle.scope_core.specs.inside.Settling.{taken_at, stands_alone, takes_at, next_of, is_base_at, number_on}
-use Rattle.scope_core.specs.inside.Settling.{base_number}
+use Rattle.scope_core.specs.inside.Settling.{is_prototype_of, is_own_prototype, others_of, likely_base, taken_at}
+use Rattle.scope_core.specs.inside.Settling.{stands_alone, takes_at, next_of, is_base_at, number_on, base_number}
 use Rattle.scope_core.specs.inside.Pieces.{takes_of}
 use Rattle.scope_core.specs.inside.Rounds.{declared_at, entities_in, settled_count, is_settled, Settles}
 use Rattle.scope_core.specs.inside.Rounds.{Describes, CanSettle, FindsIn, is_based, WrittenAreSettled, Stays}
 use Rattle.scope_core.specs.inside.Rounds.{SettlesBy, SettlesBased}
 use Rattle.scope_core.proofs.VisibleLaws.{finds-in}
-use Rattle.scope_core.proofs.BaseLaws.{of-kept, behind, heads, module-is, own-is, no-base, known-number}
+use Rattle.scope_core.proofs.BaseLaws.{behind, module-is, own-is, no-base, known-number}
 use Rattle.scope_core.proofs.BaseLaws.{only-is, takes-is, on-base, AreAlike, Knows}
+use Rattle.scope_core.proofs.MemberLaws.{filter-of, heads}
 
 -- the names of what is found
 those-alike : (test : Entity → Bool) (name : List ℕ) (entities : List Declared)
     → ((entity : Entity) → test entity ≡ true → bytes_eq name entity.name ≡ true) → AreAlike (those test entities)
 those-alike test name entities named = record {
   alike = λ i j one other at there.
-      let first = of-kept (λ (d : Declared). test d.entity) entities i one at in
-      let second = of-kept (λ (d : Declared). test d.entity) entities j other there in
+      let first = filter-of (λ (d : Declared). test d.entity) entities i one at in
+      let second = filter-of (λ (d : Declared). test d.entity) entities j other there in
       let is = (bytes_decides name one.entity.name).0 (named one.entity first.0) in
       let same = (bytes_decides name other.entity.name).0 (named other.entity second.0) in
       (bytes_decides one.entity.name other.entity.name).1 (sym is ∙ same);
@@ -100,7 +100,7 @@ likely-in tables m [] base likely = absurd (none-some base likely)
 likely-in tables m (p ∷ []) base likely = (0, likely)
 likely-in tables m (p ∷ q ∷ places) base likely =
     let only = only-is (others_of tables m (p ∷ q ∷ places)) base likely in
-    let there = of-kept (λ place. not (is_own_prototype tables m place)) (p ∷ q ∷ places) 0 base
+    let there = filter-of (λ place. not (is_own_prototype tables m place)) (p ∷ q ∷ places) 0 base
     (ap (λ l. slice_get l 0) only) in
     (there.1, there.2)
 
@@ -251,16 +251,16 @@ no-base-settles world pieces closed scene settled place one k describes settles 
         (finds-in world pieces closed settled m k name.now.form settles can less) next
 
 -- a number that the base of a variant gives is one of those that are known
-number-within : (names : List ModuleName) (tables : List Table) (written : List Written)
+base-within : (names : List ModuleName) (tables : List Table) (written : List Written)
     (taken : List (Vec (Option ℕ) Global)) (m : ℕ) (takes : Option held_takes.Takes) (limit number : ℕ)
     → ((place : Place) (n : ℕ) → taken_at taken place ≡ Some n → n < limit)
     → base_number names tables written taken m takes ≡ Some number → number < limit
-number-within names tables written taken m None limit number within is = absurd (none-some number is)
-number-within names tables written taken m (Some (held.Listed params)) limit number within is =
+base-within names tables written taken m None limit number within is = absurd (none-some number is)
+base-within names tables written taken m (Some (held.Listed params)) limit number within is =
     absurd (none-some number is)
-number-within names tables written taken m (Some (held.Known known)) limit number within is =
+base-within names tables written taken m (Some (held.Known known)) limit number within is =
     absurd (none-some number is)
-number-within names tables written taken m (Some (held.Based name)) limit number within is =
+base-within names tables written taken m (Some (held.Based name)) limit number within is =
     by (likely_base tables m places) is
   where
     places : List Place
@@ -289,7 +289,7 @@ settles-based scene place old new number is stays by = record {
       let e = is ∙ ap (λ names. base_number names old.tables.items scene.written.now old.taken.items place.«module»
       (takes_at scene.written.now place)) describes.names in
       let within = λ (n : ℕ) (some : number ≡ Some n).
-      number-within world.names old.tables.items scene.written.now old.taken.items place.«module»
+      base-within world.names old.tables.items scene.written.now old.taken.items place.«module»
       (takes_at scene.written.now place) (length old.lists.keys) n settles.known.within (sym e ∙ some) in
       (by within).settles world pieces closed one settles at
       (λ k less.

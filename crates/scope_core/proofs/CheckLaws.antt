@@ -1,28 +1,27 @@
 -- The first fault is that of the least module.
-use Rattle.std.proofs.Common.{◌≡◌, ◌∙◌, ◌++◌, ◌∷◌, [], ◌<◌, ◌≤◌, ◌+◌, ◌==◌, ◌&&◌, ◌||◌, ℕ, zero, suc, Bool}
-use Rattle.std.proofs.Common.{true, false, not, List, Some, None, map, ltb, leb}
-use Rattle.std.proofs.Common.{if◌then◌else◌, refl, sym, ap, subst, arith, slice_get, slice_index_or, length}
-use Rattle.std.proofs.Common.{drop, drop-cons, get_or, flat_map}
+use Rattle.std.proofs.Common.{◌≡◌, ◌∙◌, ◌++◌, ◌∷◌, [], ◌<◌, ◌≤◌, ◌+◌, ◌==◌, ◌&&◌, ◌||◌, ℕ, zero, suc, Bool, true}
+use Rattle.std.proofs.Common.{false, not, List, Some, None, map, ltb, leb, if◌then◌else◌, refl, sym, ap, subst}
+use Rattle.std.proofs.Common.{arith, slice_get, slice_index_or, length, drop, drop-cons, get_or, flat_map}
 use Rattle.std.specs.List.{list_any, list_all}
 use Rattle.std.specs.Str.{bytes_eq}
-use Rattle.std.proofs.lemmas.Bool.{and_parts, eq-eqb, eqb-true, or_from, or_parts, le-ltb, le-leb, leb-true, ne_eqb}
-use Rattle.std.proofs.lemmas.Option.{same_Some, none-some}
+use Rattle.std.proofs.lemmas.Bool.{and_parts, eq-eqb, eqb-true, or_from, le-ltb, le-leb, leb-true, ne_eqb}
+use Rattle.std.proofs.lemmas.Option.{slice_get-get_or}
 use Rattle.mdl_syntax.specs.declared.names.Ident.{Ident}
 use Rattle.mdl_syntax.specs.declared.modules.Module.{Module}
 use Rattle.mdl_syntax.specs.Modules.{module_of, Declaration, Parameter}
+use Rattle.type_rules.specs.declared.ty.Ty.{Ty}
+use Rattle.case_table.specs.ListLaws.{slice_get-append}
 use Rattle.scope_core.specs.declared.looked.ScopeFault.{ScopeFault}
 use Rattle.scope_core.specs.declared.looked.ScopeFault.TheVariants as fault
 use Rattle.scope_core.specs.declared.tables.Table.{Table}
 use Rattle.scope_core.specs.declared.declared.Written.{Written}
-use Rattle.type_rules.specs.declared.ty.Ty.{Ty}
 use Rattle.scope_core.specs.Entities.{Declared}
 use Rattle.scope_core.specs.Brought.{Bringing}
 use Rattle.scope_core.specs.Visible.{World}
 use Rattle.scope_core.specs.ScopeFaults.{twice, unknown, not_exported, clash, twice_among, twice_listed}
-use Rattle.scope_core.specs.ScopeFaults.{parameter_faults, parameters_of}
-use Rattle.scope_core.specs.ScopeFaults.{missing_name, clash_of, name_faults, import_faults, listed_by, of_name}
-use Rattle.scope_core.specs.ScopeFaults.{exported_of}
-use Rattle.scope_core.specs.ScopeFaults.{fault_key, is_less, IsLeast, Fails, may_stand}
+use Rattle.scope_core.specs.ScopeFaults.{parameter_faults, parameters_of, missing_name, clash_of, name_faults}
+use Rattle.scope_core.specs.ScopeFaults.{import_faults, listed_by, of_name, exported_of, fault_key, is_less}
+use Rattle.scope_core.specs.ScopeFaults.{IsLeast, Fails, may_stand}
 use Rattle.scope_core.specs.Standing.{share_name}
 use Rattle.scope_core.specs.inside.Holding.{AreTables}
 use Rattle.scope_core.specs.inside.Rounds.{last_types, last_standing}
@@ -30,6 +29,7 @@ use Rattle.scope_core.specs.inside.Checking.{faults_of, faults_in, places_in}
 use Rattle.scope_core.specs.inside.Scoping.{AreWritten}
 use Rattle.scope_core.specs.inside.Lessening.{least_onto}
 use Rattle.scope_core.proofs.LeastLaws.{least_onto-least, least_onto-none}
+use Rattle.scope_core.proofs.MemberLaws.{both-all, any-both, all-at}
 
 abbrev is_from : ℕ → ScopeFault → Bool
 is_from m fault = (fault_key fault).0 == m
@@ -46,14 +46,6 @@ pub record Accepts (test : ScopeFault → Bool) (m : ℕ) : Type 0 where
   pub unknown_is : (at : ℕ) → test (unknown m at) ≡ true
   pub not_exported_is : (at : ℕ) → test (not_exported m at) ≡ true
   pub clash_is : (at : ℕ) → test (clash m at) ≡ true
-
-pub both-all : {A : Type 0} (test : A → Bool) (one other : List A) → list_all test one ≡ true
-    → list_all test other ≡ true
-    → list_all test (one ++ other) ≡ true
-both-all test [] other first second = second
-both-all test (a ∷ one) other first second =
-    let apart = and_parts (test a) (list_all test one) first in
-    ap (λ b. b && list_all test (one ++ other)) apart.0 ∙ both-all test one other apart.1 second
 
 one-or-none : (test : ScopeFault → Bool) (b : Bool) (one : ScopeFault) → test one ≡ true
     → list_all test (if b then one ∷ [] else []) ≡ true
@@ -198,40 +190,12 @@ in-past world pieces tables brought m n (one ∷ modules) are less =
     (of-from world pieces tables (slice_index_or brought m []) m one are))
     (in-past world pieces tables brought (suc m) n modules are (omega (arith, less)))
 
-any-both : {A : Type 0} (test : A → Bool) (one other : List A) → list_any test one ≡ false → list_any test other ≡ false
-    → list_any test (one ++ other) ≡ false
-any-both test [] other first second = second
-any-both test (a ∷ one) other first second =
-    let apart = or_parts (test a) (list_any test one) first in
-    or_from (test a) (list_any test (one ++ other)) apart.0 (any-both test one other apart.1 second)
-
-get-front : {A : Type 0} (one other : List A) (i : ℕ) (a : A) → slice_get one i ≡ Some a
-    → slice_get (one ++ other) i ≡ Some a
-get-front [] other i a at = absurd (none-some a at)
-get-front (x ∷ one) other zero a at = at
-get-front (x ∷ one) other (suc i) a at = get-front one other i a at
-
-pub all-at : {A : Type 0} (test : A → Bool) (xs : List A) (i : ℕ) (a : A) → list_all test xs ≡ true
-    → slice_get xs i ≡ Some a → test a ≡ true
-all-at test [] i a all at = absurd (none-some a at)
-all-at test (x ∷ xs) zero a all at =
-    ap test (sym (same_Some x a at)) ∙ (and_parts (test x) (list_all test xs) all).0
-all-at test (x ∷ xs) (suc i) a all at = all-at test xs i a (and_parts (test x) (list_all test xs) all).1 at
-
-pub any-at-false : {A : Type 0} (test : A → Bool) (xs : List A) (i : ℕ) (a : A) → list_any test xs ≡ false
-    → slice_get xs i ≡ Some a → test a ≡ false
-any-at-false test [] i a none at = absurd (none-some a at)
-any-at-false test (x ∷ xs) zero a none at =
-    ap test (sym (same_Some x a at)) ∙ (or_parts (test x) (list_any test xs) none).0
-any-at-false test (x ∷ xs) (suc i) a none at =
-    any-at-false test xs i a (or_parts (test x) (list_any test xs) none).1 at
-
 -- the least fault of a module that has one is the least of it and of all later ones
 least-first : (m : ℕ) (one : ScopeFault) (faults others : List ScopeFault) → AreFrom m faults
     → list_all (is_past (suc m)) others ≡ true → IsLeast faults one → IsLeast (faults ++ others) one
 least-first m one faults others from past least = record {
   place = least.place;
-  among = get-front faults others least.place one least.among;
+  among = slice_get-append faults others least.place one least.among;
   least =
       let e = eqb-true (fault_key one).0 m (all-at (is_from m) faults least.place one from least.among) in
       any-both (λ other. is_less other one) faults others least.least
@@ -284,15 +248,10 @@ some-here world pieces tables brought i modules one fault are within is some bef
     (in-past world pieces tables brought (i + 1) (suc i) (drop (i + 1) modules) are (omega arith))
     (least_onto-least _ fault some)))
 
-get-in : {A : Type 0} (xs : List A) (i : ℕ) (d : A) → i < length xs → slice_get xs i ≡ Some (slice_index_or xs i d)
-get-in [] i d within = absurd (omega (arith, within))
-get-in (x ∷ xs) zero d within = refl
-get-in (x ∷ xs) (suc i) d within = get-in xs i d (omega (arith, within))
-
 -- a piece that there is
 pub piece-there : (pieces : List (List Declared)) (i : ℕ) → i < length pieces
     → slice_get pieces i ≡ Some (slice_index_or pieces i [])
-piece-there pieces i within = get-in pieces i [] within
+piece-there pieces i within = slice_get-get_or pieces i [] within
 
 -- the places of its entities
 pub places-there : (pieces : List (List Declared)) (written : List Written) (i : ℕ) → AreWritten pieces written

@@ -4,7 +4,7 @@ use Rattle.std.proofs.Common.{Option, Some, None, refl, sym, ap, subst}
 use Rattle.std.specs.Prelude.{if◌then◌else◌}
 use Rattle.std.specs.List.{list_any}
 use Rattle.std.specs.Str.{bytes_eq}
-use Rattle.std.proofs.Math.Bool.{or-false}
+use Rattle.std.proofs.Math.Bool.{or-false, or-true, and-false, not-not}
 use Rattle.std.proofs.lemmas.Bool.{false≢true, eqb-true, eqb-false, eq-eqb, ne_eqb, not-true}
 use Rattle.std.proofs.lemmas.List.{map-append, append-nil}
 use Rattle.std.proofs.lemmas.List.Folds.{list_any-append}
@@ -29,7 +29,7 @@ use Rattle.scope_core.specs.inside.Rounds.{AreSettled, last_standing}
 use Rattle.scope_core.proofs.KindLaws.{names_of, overloads-are}
 use Rattle.scope_core.proofs.ListedLaws.{least_onto-append}
 use Rattle.scope_core.proofs.OwnLaws.{same_text-tells}
-use Rattle.scope_core.proofs.TwiceLaws.{some-sort, not-not, or-true, and-false, lessened}
+use Rattle.scope_core.proofs.TwiceLaws.{some-sort, lessened}
 use Rattle.scope_core.proofs.UnderLaws.{both-assoc, both-none, among-append, under-is}
 
 or-flips : (a b : Bool) → (a || b) ≡ (b || a)

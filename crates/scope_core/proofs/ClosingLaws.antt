@@ -1,18 +1,17 @@
 -- Modules are closed one behind those that they import, and in the end all are.
-use Rattle.std.proofs.Common.{◌≡◌, ◌∙◌, ◌++◌, ◌∷◌, [], ◌<◌, ◌≤◌, ◌+◌, ◌==◌, ◌&&◌, ◌||◌, ℕ, zero, suc, Bool}
-use Rattle.std.proofs.Common.{true, false, not, List, Option, Some, None, map, ltb}
-use Rattle.std.proofs.Common.{refl, sym, ap, subst, arith, slice_get, slice_index_or, length, take, take-suc}
-use Rattle.std.proofs.Common.{get_or, replicate}
+use Rattle.std.proofs.Common.{◌≡◌, ◌∙◌, ◌++◌, ◌∷◌, [], ◌<◌, ◌≤◌, ◌+◌, ◌==◌, ◌&&◌, ◌||◌, ℕ, zero, suc, Bool, true}
+use Rattle.std.proofs.Common.{false, not, List, Option, Some, None, map, ltb, refl, sym, ap, subst, arith}
+use Rattle.std.proofs.Common.{slice_get, slice_index_or, length, take, take-suc, get_or, replicate}
 use Rattle.std.specs.List.{list_any, list_all}
 use Rattle.std.specs.declared.vec.Vec.{Vec}
 use Rattle.std.specs.declared.alloc.Global.{Global}
 use Rattle.std.proofs.lemmas.Bool.{and_parts, or_from, ltb-true, eqb-true, eqb-false, eq-eqb, ne_eqb}
 use Rattle.std.proofs.lemmas.Bool.{false≢true, false_from_ne_true}
 use Rattle.std.proofs.lemmas.List.{length-map, length-append, length-replicate, take_all}
-use Rattle.std.proofs.lemmas.Option.{same_Some, none-some, slice_get_within}
-use Rattle.case_table.specs.Lists.{firsts, Tells}
+use Rattle.std.proofs.lemmas.Option.{same_Some, none-some, slice_get_within, slice_get-get_or}
+use Rattle.std.proofs.Math.Bool.{not-not}
+use Rattle.case_table.specs.Lists.{firsts}
 use Rattle.case_table.specs.ListLaws.{slice_get-once}
-use Rattle.type_rules.specs.declared.ty.Ty.{Ty}
 use Rattle.scope_core.specs.declared.declared.Takes as held_takes
 use Rattle.scope_core.specs.declared.declared.Written.{Written}
 use Rattle.scope_core.specs.declared.settled.Settled.{Settled}
@@ -24,29 +23,22 @@ use Rattle.scope_core.specs.Brought.{Bringing}
 use Rattle.scope_core.specs.Visible.{World, brought_at}
 use Rattle.scope_core.specs.inside.Order.{is_among, are_below, IsOrder}
 use Rattle.scope_core.specs.inside.Finding.{placed}
-use Rattle.scope_core.specs.inside.Holding.{Hold, AreTables}
+use Rattle.scope_core.specs.inside.Holding.{Hold}
 use Rattle.scope_core.specs.inside.Pieces.{takes_of}
 use Rattle.scope_core.specs.inside.Reaching.{froms}
 use Rattle.scope_core.specs.inside.Scoping.{AreWritten, NoneHidden}
 use Rattle.scope_core.specs.inside.Settling.{taken_at}
 use Rattle.scope_core.specs.inside.Rounds.{declared_in, declared_at, entities_in, settled_in, settled_count}
-use Rattle.scope_core.specs.inside.Rounds.{is_settled, is_known_number, is_based}
-use Rattle.scope_core.specs.inside.Rounds.{Settles, Describes, IsReady, Stays, AreSettled, last_types}
-use Rattle.scope_core.specs.inside.Rounds.{WrittenAreSettled, BegunAreSettled, SettlesWritten, SettlesVariant}
-use Rattle.scope_core.specs.inside.Rounds.{SettlesListed, SettlesVariants}
-use Rattle.scope_core.specs.inside.Rounds.{Closes, SettlesModule}
+use Rattle.scope_core.specs.inside.Rounds.{is_settled, is_known_number, is_based, Settles, Describes, IsReady}
+use Rattle.scope_core.specs.inside.Rounds.{Stays, AreSettled, last_types, WrittenAreSettled, BegunAreSettled}
+use Rattle.scope_core.specs.inside.Rounds.{SettlesWritten, SettlesVariant, SettlesListed, SettlesVariants, Closes}
+use Rattle.scope_core.specs.inside.Rounds.{SettlesModule}
 use Rattle.scope_core.specs.inside.Closing.{VariantsSome, OrderSome}
+use Rattle.scope_core.proofs.MemberLaws.{numbers, there-is, all-at}
+use Rattle.scope_core.proofs.VisibleLaws.{tables-long}
+use Rattle.scope_core.proofs.WalkLaws.{still-settled}
 
 -- what was settled stays settled
-settled-stays : (old new : Settled) (place : Place) → Stays old new → is_settled old.taken.items place ≡ true
-    → is_settled new.taken.items place ≡ true
-settled-stays old new place stays is = by (taken_at old.taken.items place) refl is
-  where
-    by : (taken : Option ℕ) → taken_at old.taken.items place ≡ taken → is_known_number taken ≡ true
-        → is_settled new.taken.items place ≡ true
-    by None at is = absurd (false≢true is)
-    by (Some number) at is = ap is_known_number (stays.kept place number at)
-
 abbrev first_takes : Takes → List Takes → Takes
 first_takes d [] = d
 first_takes d (x ∷ xs) = x
@@ -107,13 +99,13 @@ listed-more scene m takes i one old now after within is before step = record { s
             ∙ new (ap (λ (d : Declared). is_based d.takes) one ∙ based)
         by j other found based false e less front last there new =
             let apart = eqb-false j i e in
-            settled-stays now after (placed m j) step.stays
+            still-settled now after (placed m j) step.stays
             (front j other (omega (arith, less, apart)) found based)
 
 written-stays : (pieces : List (List Declared)) (m : ℕ) (old new : Settled) → Stays old new
     → WrittenAreSettled pieces m old.taken.items → WrittenAreSettled pieces m new.taken.items
 written-stays pieces m old new stays written = record {
-  settled = λ i one at based. settled-stays old new (placed m i) stays (written.settled i one at based);
+  settled = λ i one at based. still-settled old new (placed m i) stays (written.settled i one at based);
 }
 
 none-begun : (count i : ℕ) → slice_index_or (replicate count false) i false ≡ true → ⊥
@@ -142,11 +134,6 @@ variants-more scene m count i begun after_begun old now after within before step
   settles = settles;
 }
   where
-    there-is : (piece : List Declared) (i : ℕ) → i < length piece → (one : Declared) × (slice_get piece i ≡ Some one)
-    there-is [] i within = absurd (omega (arith, within))
-    there-is (one ∷ piece) zero within = (one, refl)
-    there-is (one ∷ piece) (suc i) within = there-is piece i (omega (arith, within))
-
     settles : (world : World) (pieces : List (List Declared)) (closed : List ℕ) (piece : List Declared)
         → Describes world pieces scene → Settles world pieces closed old → IsReady world closed m
         → slice_get pieces m ≡ Some piece → length piece ≡ count → WrittenAreSettled pieces m old.taken.items
@@ -176,7 +163,7 @@ variants-more scene m count i begun after_begun old now after within before step
             ap (λ n. is_settled after.taken.items (placed m n)) (eqb-true j i e) ∙ new
         by j other found false e less front new =
             let apart = eqb-false j i e in
-            settled-stays now after (placed m j) step.stays (front j other (omega (arith, less, apart)) found)
+            still-settled now after (placed m j) step.stays (front j other (omega (arith, less, apart)) found)
 
 pub variants-end : (scene : Scene) (m count i : ℕ) (begun : List Bool) (old now : Settled) → count ≤ i
     → VariantsSome scene m count i begun old now → SettlesVariants scene m count old now
@@ -249,12 +236,6 @@ module-none scene m old new past last = record {
       (ap (λ p. declared_in p i) (sym (written-past pieces scene.written.now m describes.written past)) ∙ here)));
 }
 
-numbers : Tells ◌==◌
-numbers = record {
-  itself = λ a. eq-eqb a a refl;
-  only = λ a b same. eqb-true a b same;
-}
-
 among-place : (ms : List ℕ) (i m : ℕ) → is_among (take i ms) m ≡ true → (j : ℕ) × (j < i) × (slice_get ms j ≡ Some m)
 among-place ms zero m among = absurd (false≢true among)
 among-place [] (suc i) m among = absurd (false≢true among)
@@ -280,13 +261,7 @@ fresh-at ms i m apart at =
     omega (arith, less, same))
 
 below-at : (count : ℕ) (ms : List ℕ) (i m : ℕ) → are_below count ms ≡ true → slice_get ms i ≡ Some m → m < count
-below-at count [] i m all at = absurd (none-some m at)
-below-at count (x ∷ ms) zero m all at =
-    let less = ltb-true x count (and_parts (ltb x count) (are_below count ms) all).0 in
-    let same = same_Some x m at in
-    omega (arith, less, same)
-below-at count (x ∷ ms) (suc i) m all at =
-    below-at count ms i m (and_parts (ltb x count) (are_below count ms) all).1 at
+below-at count ms i m all at = ltb-true m count (all-at (λ k. ltb k count) ms i m all at)
 
 froms-at : (brings : List (List Bringing)) (m : ℕ)
     → slice_index_or (map froms brings) m [] ≡ froms (slice_index_or brings m [])
@@ -351,13 +326,8 @@ order-more scene order i m d first now after within is before step = record {
       (sym (ap (λ n. take n order) e ∙ take-suc order i d within ∙ ap (λ v. take i order ++ v ∷ []) (sym is)))
       (step.settles world pieces (length world.names ∷ take i order) describes
       (before.settles world pieces describes settles long ordered)
-      (ready-at world order i m long ordered (get-some order i m d within is)));
+      (ready-at world order i m long ordered (slice_get-get_or order i d within ∙ ap Some (sym is))));
 }
-  where
-    get-some : (ms : List ℕ) (i m d : ℕ) → i < length ms → m ≡ get_or ms i d → slice_get ms i ≡ Some m
-    get-some [] i m d within is = absurd (omega (arith, within))
-    get-some (x ∷ ms) zero m d within is = ap Some (sym is)
-    get-some (x ∷ ms) (suc i) m d within is = get-some ms i m d (omega (arith, within)) is
 
 settled_in-le : (row : List (Option ℕ)) → settled_in row ≤ length row
 settled_in-le [] = omega arith
@@ -383,11 +353,6 @@ count-within (row ∷ taken) (p ∷ pieces) same =
     rest : List ℕ → List ℕ
     rest [] = []
     rest (x ∷ xs) = xs
-
-get-in : (keys : List (List Ty)) (i : ℕ) → i < length keys → slice_get keys i ≡ Some (slice_index_or keys i [])
-get-in [] i within = absurd (omega (arith, within))
-get-in (x ∷ keys) zero within = refl
-get-in (x ∷ keys) (suc i) within = get-in keys i (omega (arith, within))
 
 declared-within : (pieces : List (List Declared)) (m i : ℕ) (one : Declared)
     → declared_in (slice_get pieces m) i ≡ Some one → m < length pieces
@@ -425,7 +390,7 @@ all-settled world pieces closed settled settles count all = record {
     by place one at (Some number) same is = (
       number,
       same,
-      get-in settled.lists.keys number (settles.known.within place number same)
+      slice_get-get_or settled.lists.keys number [] (settles.known.within place number same)
           ∙ ap Some (sym (settles.known.known place one number (length (entities_in pieces)) at same enough)),
     )
 
@@ -438,15 +403,8 @@ order-end scene order i first now past some world pieces describes settles long 
     all-settled world pieces (length world.names ∷ take i order) now
     (some.settles world pieces describes settles long ordered) count all
   where
-    tables-long : (k : ℕ) (tables : List Table) (pieces : List (List Declared)) → AreTables world k tables pieces
-        → length tables ≡ length pieces
-    tables-long k [] [] are = refl
-    tables-long k [] (p ∷ pieces) are = absurd are
-    tables-long k (t ∷ tables) [] are = absurd are
-    tables-long k (t ∷ tables) (p ∷ pieces) are = ap suc (tables-long (suc k) tables pieces are.1)
-
     count : length pieces ≡ suc (length world.names)
-    count = sym (tables-long 0 first.tables.items pieces settles.hold.are) ∙ settles.hold.count
+    count = sym (tables-long world 0 first.tables.items pieces settles.hold.are) ∙ settles.hold.count
 
     all : (m : ℕ) → m ≤ length world.names → is_among (length world.names ∷ take i order) m ≡ true
     all m less = by (length world.names == m) refl
@@ -533,15 +491,9 @@ none-settled world pieces scene first describes hold none empty is =
       open_are = λ m table among at. open-at first.tables.items m table none at;
     }
   where
-    twice : (b : Bool) → not b ≡ true → b ≡ false
-    twice true is = sym is
-    twice false is = refl
-
     open-at : (tables : List Table) (m : ℕ) (table : Table) → NoneHidden tables → slice_get tables m ≡ Some table
         → list_any (λ hidden. hidden) table.hidden.items ≡ false
-    open-at [] m table none at = absurd (none-some table at)
-    open-at (t ∷ tables) zero table none at =
-        ap (λ (t : Table). list_any (λ hidden. hidden) t.hidden.items) (sym (same_Some t table at))
-        ∙ twice _ (and_parts (not (list_any (λ hidden. hidden) t.hidden.items)) _ none).0
-    open-at (t ∷ tables) (suc m) table none at =
-        open-at tables m table (and_parts (not (list_any (λ hidden. hidden) t.hidden.items)) _ none).1 at
+    open-at tables m table none at =
+        sym (not-not (list_any (λ hidden. hidden) table.hidden.items))
+        ∙ ap not (all-at (λ (table : Table). not (list_any (λ hidden. hidden) table.hidden.items)) tables m table none
+        at)

@@ -1,8 +1,7 @@
 -- One more entity is settled.
-use Rattle.std.proofs.Common.{◌≡◌, ◌∙◌, ◌⊎◌, inl, inr, ⊎_elim, ◌<◌, ◌≤◌, ◌∷◌, ◌==◌, [], ℕ, zero, suc, Bool}
-use Rattle.std.proofs.Common.{true, false, List}
-use Rattle.std.proofs.Common.{Option, Some, None, refl, sym, ap, subst, slice_get, slice_index_or, slice_set}
-use Rattle.std.proofs.Common.{map, drop, length, is_some, arith}
+use Rattle.std.proofs.Common.{◌≡◌, ◌∙◌, ◌⊎◌, inl, inr, ⊎_elim, ◌<◌, ◌≤◌, ◌∷◌, ◌==◌, [], ℕ, zero, suc, Bool, true}
+use Rattle.std.proofs.Common.{false, List, Option, Some, None, refl, sym, ap, subst, slice_get, slice_index_or}
+use Rattle.std.proofs.Common.{slice_set, map, drop, length, is_some, arith}
 use Rattle.std.specs.declared.vec.Vec.{Vec}
 use Rattle.std.specs.declared.alloc.Global.{Global}
 use Rattle.std.proofs.lemmas.Bool.{eqb-true, eqb-false, false≢true}
@@ -19,8 +18,8 @@ use Rattle.scope_core.specs.inside.Finding.{placed}
 use Rattle.scope_core.specs.inside.Holding.{Hold}
 use Rattle.scope_core.specs.inside.Settling.{taken_in, taken_at}
 use Rattle.scope_core.specs.inside.Rounds.{declared_in, declared_at, entities_in, settled_in, settled_count}
-use Rattle.scope_core.specs.inside.Rounds.{is_known_number, is_settled}
-use Rattle.scope_core.specs.inside.Rounds.{AreKnown, IsClosed, Settles, SettlesBy}
+use Rattle.scope_core.specs.inside.Rounds.{is_known_number, is_settled, AreKnown, IsClosed, Settles, SettlesBy}
+use Rattle.scope_core.proofs.MemberLaws.{get-set_same, get-set_other}
 
 abbrev pub Rows : Type 0
 Rows = List (Vec (Option ℕ) Global)
@@ -61,20 +60,6 @@ lengths-set (one ∷ taken) zero row now at same =
     let is = ap (λ (row : Vec (Option ℕ) Global). length row.items) (same_Some one row at) in
     ap (λ n. n ∷ lengths taken) (same ∙ sym is)
 lengths-set (one ∷ taken) (suc m) row now at same = ap (λ l. length one.items ∷ l) (lengths-set taken m row now at same)
-
-pub get-set_same : {A : Type 0} (xs : List A) (i : ℕ) (x y : A) → slice_get xs i ≡ Some x
-    → slice_get (slice_set xs i y) i ≡ Some y
-get-set_same [] i x y at = absurd (none-some x at)
-get-set_same (one ∷ xs) zero x y at = refl
-get-set_same (one ∷ xs) (suc i) x y at = get-set_same xs i x y at
-
-pub get-set_other : {A : Type 0} (xs : List A) (i j : ℕ) (y : A) → (j ≡ i → ⊥)
-    → slice_get (slice_set xs i y) j ≡ slice_get xs j
-get-set_other [] i j y apart = refl
-get-set_other (one ∷ xs) zero zero y apart = absurd (apart refl)
-get-set_other (one ∷ xs) zero (suc j) y apart = refl
-get-set_other (one ∷ xs) (suc i) zero y apart = refl
-get-set_other (one ∷ xs) (suc i) (suc j) y apart = get-set_other xs i j y (λ e. apart (ap suc e))
 
 pub same-placed : (one other : Place) → one.«module» ≡ other.«module» → one.index ≡ other.index → one ≡ other
 same-placed one other m i = λ k. record { «module» = m k; index = i k }
@@ -178,8 +163,8 @@ set-settles place number old new set same_tables same_keys inside = record {
       hold = subst (λ (tables : Vec Table Global). Hold world tables.items pieces) (sym same_tables) settles.hold;
       long = set.long ∙ settles.long;
       known = subst (λ (keys : List (List Ty)). AreKnown world pieces keys new.taken.items) (sym same_keys)
-          (known-on world pieces place number old.lists.keys old.taken.items new.taken.items one set inside settles.known at
-          takes);
+          (known-on world pieces place number old.lists.keys old.taken.items new.taken.items one set inside
+          settles.known at takes);
       closed_are = λ m is. subst (λ (tables : Vec Table Global). IsClosed world pieces tables.items new.taken.items m)
           (sym same_tables) (closed-on world pieces m place number old.tables.items old.taken.items new.taken.items set
           (settles.closed_are m is));

@@ -1,50 +1,52 @@
 -- What is found in the tables of a set is what its names find.
-use Rattle.std.proofs.Common.{◌≡◌, ◌∙◌, ◌+◌, ◌<◌, ◌≤◌, ◌++◌, ◌∷◌, ◌==◌, ◌&&◌, ◌||◌, not, [], ℕ, suc, zero}
-use Rattle.std.proofs.Common.{Bool, true, false, List}
-use Rattle.std.proofs.Common.{Option, Some, option_map, refl, sym, ap, subst, slice_get, slice_index_or, map}
-use Rattle.std.proofs.Common.{filter, length, arith, ltb}
+use Rattle.std.proofs.Common.{◌≡◌, ◌∙◌, ◌+◌, ◌<◌, ◌≤◌, ◌++◌, ◌∷◌, ◌==◌, ◌&&◌, ◌||◌, not, [], ℕ, suc, zero, Bool}
+use Rattle.std.proofs.Common.{true, false, List, Option, Some, option_map, refl, sym, ap, subst, slice_get}
+use Rattle.std.proofs.Common.{slice_index_or, map, filter, length, arith, ltb}
 use Rattle.std.specs.Prelude.{if◌then◌else◌}
 use Rattle.std.specs.List.{list_any, list_all, flat_map}
 use Rattle.std.specs.Str.{bytes_eq}
-use Rattle.std.proofs.lemmas.Bool.{and_parts, or_from, eqb-true, ne_eqb, ltb-true, ltb-false}
-use Rattle.mdl_syntax.specs.declared.names.NameForm.{NameForm}
-use Rattle.mdl_syntax.specs.declared.names.NameForm.TheVariants as form
+use Rattle.std.proofs.lemmas.Bool.{and_parts, or_from, eqb-true, ne_eqb, ltb-true, ltb-false, and_right}
 use Rattle.std.proofs.Math.Bool.{or-false}
 use Rattle.std.proofs.lemmas.Option.{same_Some, none-some, slice_get-map}
 use Rattle.std.proofs.lemmas.Simd.{map-map}
+use Rattle.mdl_syntax.specs.declared.names.NameForm.{NameForm}
+use Rattle.mdl_syntax.specs.declared.names.NameForm.TheVariants as form
 use Rattle.module_set.specs.declared.module_name.ModuleName.{ModuleName}
 use Rattle.scope_core.specs.declared.entity.Entity.{Entity}
 use Rattle.scope_core.specs.declared.reach.Reach.{Reach}
 use Rattle.scope_core.specs.declared.tables.Table.{Table}
 use Rattle.scope_core.specs.declared.tables.Place.{Place}
 use Rattle.scope_core.specs.Entities.{Declared}
-use Rattle.scope_core.specs.Visible.{World, brought_at, name_at, no_name, brings, uses, is_within, is_near}
-use Rattle.scope_core.specs.Visible.{is_far, is_given, fits, those}
-use Rattle.scope_core.specs.Visible.{found, found_parts, found_near, found_far, or_else, texts, last_part}
-use Rattle.scope_core.specs.Visible.{front_parts, word_text}
+use Rattle.scope_core.specs.Visible.{World, brought_at, name_at, no_name, brings, uses, is_within, is_near, is_far}
+use Rattle.scope_core.specs.Visible.{is_given, fits, those, found, found_parts, found_near, found_far, or_else}
+use Rattle.scope_core.specs.Visible.{texts, last_part, front_parts, word_text}
 use Rattle.scope_core.specs.inside.Reaching.{AreReaches}
 use Rattle.scope_core.specs.inside.Finding.{entity_of, entity_at, seen_in, reaches_of, near_places, far_in}
-use Rattle.scope_core.specs.inside.Finding.{far_places, fits_name, first_of}
-use Rattle.scope_core.specs.inside.Finding.{parts_places, found_places}
+use Rattle.scope_core.specs.inside.Finding.{far_places, fits_name, first_of, parts_places, found_places}
 use Rattle.scope_core.specs.inside.Rounds.{declared_in, declared_at}
 use Rattle.scope_core.specs.inside.Holding.{open_pieces, IsTable, AreTables, Hold}
 use Rattle.scope_core.proofs.HoldLaws.{is_seen, see_all, assembled}
 use Rattle.scope_core.proofs.WithinLaws.{has-within, are-ordered, ordered-kept, agree-kept, kept-all}
 use Rattle.scope_core.proofs.WithinLaws.{none-within, uses-from, brings-from}
+use Rattle.scope_core.proofs.MemberLaws.{nil-cons, there-is, all-at}
 
 -- the tables at an index
-table-at : (world : World) (k : ℕ) (tables : List Table) (pieces : List (List Declared)) (m : ℕ) (table : Table)
+pub table-at : (world : World) (k : ℕ) (tables : List Table) (pieces : List (List Declared)) (m : ℕ) (table : Table)
     → AreTables world k tables pieces → slice_get tables m ≡ Some table
-    → (piece : List Declared) × IsTable world (k + m) piece table
+    → (piece : List Declared) × (slice_get pieces m ≡ Some piece) × IsTable world (k + m) piece table
 table-at world k [] pieces m table are at = absurd (none-some table at)
-table-at world k (t ∷ ts) [] m table are at = absurd are
-table-at world k (t ∷ ts) (p ∷ ps) zero table are at =
-    let e : k ≡ k + 0 = omega arith in
-    (p, subst (λ n. IsTable world n p table) e (subst (IsTable world k p) (same_Some t table at) are.0))
-table-at world k (t ∷ ts) (p ∷ ps) (suc m) table are at =
-    let later = table-at world (suc k) ts ps m table are.1 at in
-    let e : suc k + m ≡ k + suc m = omega arith in
-    (later.0, subst (λ n. IsTable world n later.0 table) e later.1)
+table-at world k (one ∷ tables) [] m table are at = absurd are
+table-at world k (one ∷ tables) (piece ∷ pieces) zero table are at =
+    let here : k ≡ k + 0 = omega arith in (
+      piece,
+      refl,
+      subst (λ n. IsTable world n piece table) here
+          (subst (IsTable world k piece) (same_Some one table at) are.0),
+    )
+table-at world k (one ∷ tables) (piece ∷ pieces) (suc m) table are at =
+    let there : suc k + m ≡ k + suc m = omega arith in
+    let later = table-at world (suc k) tables pieces m table are.1 at in
+    (later.0, later.1, subst (λ n. IsTable world n later.0 table) there later.2)
 
 pub reaches-at : (world : World) (tables : List Table) (pieces : List (List Declared)) (m : ℕ) (table : Table)
     → AreTables world 0 tables pieces → slice_get tables m ≡ Some table
@@ -52,11 +54,7 @@ pub reaches-at : (world : World) (tables : List Table) (pieces : List (List Decl
 reaches-at world tables pieces m table are at =
     let e : 0 + m ≡ m = omega arith in
     subst (λ n. AreReaches n (brought_at world n) table.reaches.items) e
-    (table-at world 0 tables pieces m table are at).1.reaches
-
-and-none : (b c : Bool) → c ≡ false → (b && c) ≡ false
-and-none true c none = none
-and-none false c none = refl
+    (table-at world 0 tables pieces m table are at).2.reaches
 
 pub near-found : (world : World) (tables : List Table) (pieces : List (List Declared)) (m : ℕ) (name : List ℕ)
     (all : Bool) (table : Table) → AreTables world 0 tables pieces → slice_get tables m ≡ Some table
@@ -74,7 +72,7 @@ near-found world tables pieces m name all table are at =
     (λ j one at kept entity here. ap (λ b. bytes_eq name entity.name && b)
     (has-within m (brought_at world m) one entity all world refl (reach.own_is j one at) (reach.tells j one at)
     here).0))
-    (λ entity above apart. and-none (bytes_eq name entity.name) (is_within all uses world m entity)
+    (λ entity above apart. and_right (bytes_eq name entity.name) (is_within all uses world m entity)
     (none-within m (brought_at world m) table.reaches.items world all uses entity refl reach (uses-from entity)
     (sym (ap (list_any (λ (reach : Reach). reach.module == entity.id.module)) (kept-all table.reaches.items))
     ∙ apart)))
@@ -106,7 +104,7 @@ kept-flat keep f (reach ∷ reaches) = by (keep reach) (kept-flat keep f reaches
 any-kept : (keep : ℕ → Bool) (n : ℕ) (reaches : List Reach)
     → list_any (λ (reach : Reach). reach.module == n) (filter (λ (reach : Reach). keep reach.module) reaches)
     ≡ (keep n && list_any (λ (reach : Reach). reach.module == n) reaches)
-any-kept keep n [] = sym (and-none (keep n) false refl)
+any-kept keep n [] = sym (and_right (keep n) false refl)
 any-kept keep n (reach ∷ reaches) =
     by (reach.module == n) refl (keep reach.module) refl (any-kept keep n reaches)
   where
@@ -181,7 +179,7 @@ far-found world tables pieces m absolute front name all table are at within =
     ∙ ap (λ b. b && is_within all brings world m entity)
     (sym (ap (λ n. fits absolute front (slice_index_or world.names n no_name).parts) e
     ∙ sym (fits-at absolute front world.names one.module below) ∙ kept)))))
-    (λ entity above apart. and-none (bytes_eq name entity.name)
+    (λ entity above apart. and_right (bytes_eq name entity.name)
     (fits absolute front (name_at world entity.id.module).parts && is_within all brings world m entity)
     (by entity (keep entity.id.module) refl
     (sym (any-kept keep entity.id.module table.reaches.items) ∙ apart)))
@@ -196,22 +194,12 @@ far-found world tables pieces m absolute front name all table are at within =
     start j = omega arith
 
     there : (j : ℕ) (one : Reach) → slice_get table.reaches.items j ≡ Some one → one.module < length world.names
-    there j one is = ltb-true one.module (length world.names) (all-at-true table.reaches.items j one within is)
-      where
-        all-at-true : (reaches : List Reach) (j : ℕ) (one : Reach)
-            → list_all (λ (reach : Reach). ltb reach.module (length world.names)) reaches ≡ true
-            → slice_get reaches j ≡ Some one → ltb one.module (length world.names) ≡ true
-        all-at-true [] j one all at = absurd (none-some one at)
-        all-at-true (r ∷ reaches) zero one all at =
-            ap (λ (r : Reach). ltb r.module (length world.names)) (sym (same_Some r one at))
-            ∙ (and_parts (ltb r.module (length world.names)) _ all).0
-        all-at-true (r ∷ reaches) (suc j) one all at =
-            all-at-true reaches j one (and_parts (ltb r.module (length world.names)) _ all).1 at
+    there j one is = ltb-true one.module (length world.names) (all-at _ table.reaches.items j one within is)
 
     unseen : (entity : Entity)
         → list_any (λ (reach : Reach). reach.module == entity.id.module) table.reaches.items ≡ false
         → (fits absolute front (name_at world entity.id.module).parts && is_within all brings world m entity) ≡ false
-    unseen entity none = and-none (fits absolute front (name_at world entity.id.module).parts)
+    unseen entity none = and_right (fits absolute front (name_at world entity.id.module).parts)
         (is_within all brings world m entity)
         (none-within m (brought_at world m) table.reaches.items world all brings entity refl reach
         (brings-from entity) none)
@@ -249,11 +237,8 @@ given-near world name all entity alone =
     ap (λ b. bytes_eq name entity.name && ((entity.id.module == length world.names) || ((all || entity.exported) && b)))
     (ap (list_any (uses entity)) alone)
     ∙ ap (λ b. bytes_eq name entity.name && ((entity.id.module == length world.names) || b))
-    (and-none (all || entity.exported) false refl)
+    (and_right (all || entity.exported) false refl)
     ∙ ap (λ b. bytes_eq name entity.name && b) (or-false (entity.id.module == length world.names))
-
-nil-cons : {A : Type 0} (x : A) (xs : List A) → [] ≡ x ∷ xs → ⊥
-nil-cons x xs e = let long = ap length e in omega (arith, long)
 
 first-told : (f : Place → Option Declared) (one other : List Place) (a b : List Declared) → map f one ≡ map Some a
     → map f other ≡ map Some b → map f (first_of one other) ≡ map Some (or_else a b)
@@ -262,14 +247,9 @@ first-told f [] other (d ∷ a) b first second = absurd (nil-cons (Some d) (map 
 first-told f (p ∷ one) other [] b first second = absurd (nil-cons (f p) (map f one) (sym first))
 first-told f (p ∷ one) other (d ∷ a) b first second = first
 
-there-is : (world : World) (tables : List Table) (m : ℕ) → length tables ≡ suc (length world.names)
+has-table : (world : World) (tables : List Table) (m : ℕ) → length tables ≡ suc (length world.names)
     → m ≤ length world.names → (table : Table) × (slice_get tables m ≡ Some table)
-there-is world tables m count within = get-some tables m (omega (arith, count, within))
-  where
-    get-some : (tables : List Table) (m : ℕ) → m < length tables → (table : Table) × (slice_get tables m ≡ Some table)
-    get-some [] m within = absurd (omega (arith, within))
-    get-some (table ∷ tables) zero within = (table, refl)
-    get-some (table ∷ tables) (suc m) within = get-some tables m (omega (arith, within))
+has-table world tables m count within = there-is tables m (omega (arith, count, within))
 
 -- a name finds in the tables the places of what it finds among the entities that they hold
 pub places-are : (world : World) (tables : List Table) (pieces : List (List Declared)) (m : ℕ) (name : NameForm)
@@ -278,7 +258,7 @@ pub places-are : (world : World) (tables : List Table) (pieces : List (List Decl
     → map (declared_at pieces) (found_places world.names tables m name all)
     ≡ map Some (found all world (open_pieces tables pieces) m name)
 places-are world tables pieces m (form.Word word) all hold inside =
-    let prelude = there-is world tables (length world.names) hold.count (omega arith) in
+    let prelude = has-table world tables (length world.names) hold.count (omega arith) in
     near-found world tables pieces (length world.names) (word_text word) all prelude.0 hold.are prelude.1
     ∙ ap (map Some)
     (those-same (is_near all world (length world.names) (word_text word)) (is_given world (word_text word))
@@ -300,8 +280,8 @@ places-are world tables pieces m (form.Parts absolute parts) all hold inside = b
             (first_of (near_places tables m name all) (near_places tables (length world.names) name all))
             ≡ map Some (found_near all world (open_pieces tables pieces) m name)
         near =
-            let own = there-is world tables m hold.count (omega (arith, inside)) in
-            let prelude = there-is world tables (length world.names) hold.count (omega arith) in
+            let own = has-table world tables m hold.count (omega (arith, inside)) in
+            let prelude = has-table world tables (length world.names) hold.count (omega arith) in
             first-told (declared_at pieces) (near_places tables m name all)
             (near_places tables (length world.names) name all)
             (those (is_near all world m name) (open_pieces tables pieces))
@@ -314,7 +294,7 @@ places-are world tables pieces m (form.Parts absolute parts) all hold inside = b
         far : map (declared_at pieces) (far_places world.names tables m absolute front name all)
             ≡ map Some (found_far all world (open_pieces tables pieces) m absolute (part ∷ parts))
         far =
-            let own = there-is world tables m hold.count (omega (arith, inside)) in
+            let own = has-table world tables m hold.count (omega (arith, inside)) in
             far-found world tables pieces m absolute front name all own.0 hold.are own.1
             (hold.within m own.0 inside own.1)
 

@@ -1,17 +1,15 @@
 -- A module is closed.
 use Rattle.std.proofs.Common.{◌≡◌, ◌∙◌, ◌+◌, ◌<◌, ◌≤◌, ◌++◌, ◌∷◌, ◌==◌, ◌&&◌, ◌||◌, not, [], ℕ, zero, suc, Bool}
-use Rattle.std.proofs.Common.{true, false, List}
-use Rattle.std.proofs.Common.{Option, Some, None, refl, sym, ap, subst, slice_get, slice_index_or, slice_set}
-use Rattle.std.proofs.Common.{map, length, option_map, arith, cond, ltb}
+use Rattle.std.proofs.Common.{true, false, List, Option, Some, None, refl, sym, ap, subst, slice_get}
+use Rattle.std.proofs.Common.{slice_index_or, slice_set, map, length, option_map, arith, ltb}
 use Rattle.std.specs.Prelude.{if◌then◌else◌}
-use Rattle.std.specs.List.{list_any, list_all, position_or_len}
+use Rattle.std.specs.List.{list_any, list_all}
 use Rattle.std.specs.Str.{bytes_eq}
 use Rattle.std.specs.Cmp.Lexicographic.{pointwise, bytes_decides}
 use Rattle.std.specs.declared.vec.Vec.{Vec}
 use Rattle.std.specs.declared.alloc.Global.{Global}
-use Rattle.std.proofs.lemmas.Bool.{eqb-true, eqb-false, eq-eqb, ne_eqb, false≢true, or_left, or_right}
-use Rattle.std.proofs.lemmas.Bool.{and_parts, cond-true}
-use Rattle.std.proofs.Math.Bool.{or-false}
+use Rattle.std.proofs.lemmas.Bool.{eqb-true, eqb-false, eq-eqb, ne_eqb, false≢true, and_parts, cond-true}
+use Rattle.std.proofs.Math.Bool.{or-false, not-not}
 use Rattle.std.proofs.lemmas.List.{length-set, length-map}
 use Rattle.std.proofs.lemmas.List.Folds.{list_any-append}
 use Rattle.std.proofs.lemmas.Option.{same_Some, none-some, slice_get_within, slice_get-map}
@@ -35,45 +33,28 @@ use Rattle.scope_core.specs.inside.Holding.{IsTable, AreTables, Hold}
 use Rattle.scope_core.specs.inside.Hiding.{key_of, key_in, key_at, has_key, IsHiding}
 use Rattle.scope_core.specs.inside.Settling.{taken_in, taken_at}
 use Rattle.scope_core.specs.inside.Rounds.{declared_in, declared_at, entities_in, settled_count}
-use Rattle.scope_core.specs.inside.Rounds.{is_known_number, is_settled}
-use Rattle.scope_core.specs.inside.Rounds.{AreKnown, IsClosed, Settles, Closes}
-use Rattle.scope_core.proofs.OwnLaws.{same_text-tells, any-onto}
+use Rattle.scope_core.specs.inside.Rounds.{is_settled, AreKnown, IsClosed, Settles, Closes}
+use Rattle.scope_core.proofs.OwnLaws.{same_text-tells, name-at}
 use Rattle.scope_core.proofs.SameLaws.{types-decide}
-use Rattle.scope_core.proofs.CountLaws.{Rows, lengths, in-range, get-set_same, get-set_other}
-
-pub at-table : (world : World) (k : ℕ) (tables : List Table) (pieces : List (List Declared)) (m : ℕ) (table : Table)
-    → AreTables world k tables pieces → slice_get tables m ≡ Some table
-    → (piece : List Declared) × (slice_get pieces m ≡ Some piece) × IsTable world (k + m) piece table
-at-table world k [] pieces m table are at = absurd (none-some table at)
-at-table world k (one ∷ tables) [] m table are at = absurd are
-at-table world k (one ∷ tables) (piece ∷ pieces) zero table are at =
-    let here : k ≡ k + 0 = omega arith in (
-      piece,
-      refl,
-      subst (λ n. IsTable world n piece table) here
-          (subst (IsTable world k piece) (same_Some one table at) are.0),
-    )
-at-table world k (one ∷ tables) (piece ∷ pieces) (suc m) table are at =
-    let there : suc k + m ≡ k + suc m = omega arith in
-    let later = at-table world (suc k) tables pieces m table are.1 at in
-    (later.0, later.1, subst (λ n. IsTable world n later.0 table) there later.2)
+use Rattle.scope_core.proofs.CountLaws.{Rows, lengths, in-range}
+use Rattle.scope_core.proofs.MemberLaws.{any-of, all-at, there-is, get-set_same, get-set_other}
+use Rattle.scope_core.proofs.OrderLaws.{among-last}
+use Rattle.scope_core.proofs.BaseLaws.{any-in, known-number, both-ways}
+use Rattle.scope_core.proofs.FoundIsLaws.{table-at}
+use Rattle.scope_core.proofs.VisibleLaws.{tables-long}
 
 pub at-piece : (world : World) (k : ℕ) (tables : List Table) (pieces : List (List Declared)) (m : ℕ)
     (piece : List Declared) → AreTables world k tables pieces → slice_get pieces m ≡ Some piece
     → (table : Table) × (slice_get tables m ≡ Some table) × IsTable world (k + m) piece table
-at-piece world k tables [] m piece are at = absurd (none-some piece at)
-at-piece world k [] (one ∷ pieces) m piece are at = absurd are
-at-piece world k (table ∷ tables) (one ∷ pieces) zero piece are at =
-    let here : k ≡ k + 0 = omega arith in (
-      table,
-      refl,
-      subst (λ n. IsTable world n piece table) here
-          (subst (λ p. IsTable world k p table) (same_Some one piece at) are.0),
+at-piece world k tables pieces m piece are at =
+    let long = tables-long world k tables pieces are in
+    let within = slice_get_within pieces m piece at in
+    let table = there-is tables m (omega (arith, long, within)) in
+    let found = table-at world k tables pieces m table.0 are table.1 in (
+      table.0,
+      table.1,
+      subst (λ p. IsTable world (k + m) p table.0) (same_Some found.0 piece (sym found.1 ∙ at)) found.2,
     )
-at-piece world k (table ∷ tables) (one ∷ pieces) (suc m) piece are at =
-    let there : suc k + m ≡ k + suc m = omega arith in
-    let later = at-piece world (suc k) tables pieces m piece are.1 at in
-    (later.0, later.1, subst (λ n. IsTable world n piece later.0) there later.2)
 
 -- a table with other flags
 pub set-tables : (world : World) (k : ℕ) (tables : List Table) (pieces : List (List Declared)) (m : ℕ)
@@ -129,11 +110,6 @@ among-more closed m n apart =
     list_any-append (λ other. other == n) closed (m ∷ [])
     ∙ ap (λ b. is_among closed n || (b || false)) (ne_eqb m n (λ e. eqb-false n m apart (sym e)))
     ∙ or-false (is_among closed n)
-
-among-last : (closed : List ℕ) (m : ℕ) → is_among (closed ++ m ∷ []) m ≡ true
-among-last closed m =
-    list_any-append (λ other. other == m) closed (m ∷ [])
-    ∙ or_right (is_among closed m) ((m == m) || false) (or_left (m == m) false (eq-eqb m m refl))
 
 -- a module more is closed, and the tables of others stay
 pub close-more : (world : World) (pieces : List (List Declared)) (closed : List ℕ) (m : ℕ) (old new : Settled)
@@ -214,68 +190,18 @@ no-taken m old none world pieces closed i one settles at =
     none-some row.0 (sym none ∙ row.1)
 
 -- names have the same number only where they are equal
-at-position : (test : List ℕ → Bool) (names : List (List ℕ)) → list_any test names ≡ true
-    → test (slice_index_or names (position_or_len test names) []) ≡ true
-at-position test [] some = absurd (false≢true some)
-at-position test (name ∷ names) some = by (test name) refl some (at-position test names)
-  where
-    by : (b : Bool) → test name ≡ b → (b || list_any test names) ≡ true
-        → (list_any test names ≡ true → test (slice_index_or names (position_or_len test names) []) ≡ true)
-        → test (slice_index_or (name ∷ names) (cond (not b) (1 + position_or_len test names) 0) []) ≡ true
-    by true is some later = is
-    by false is some later =
-        let next : 1 + position_or_len test names ≡ suc (position_or_len test names) = omega arith in
-        ap (λ k. test (slice_index_or (name ∷ names) k [])) next ∙ later some
-
-known-name : (own : List Entity) (i : ℕ) (entity : Entity) → slice_get own i ≡ Some entity
-    → list_any (same_text entity.name) (firsts same_text (names_in own)) ≡ true
-known-name own i entity at =
-    any-onto entity.name [] (names_in own)
-    ∙ list_any-slice_get same_text same_text-tells (names_in own) entity.name i
-    (slice_get-map (λ (one : Entity). one.name) own i ∙ ap (option_map (λ (one : Entity). one.name)) at)
-
 number-of : (own : List Entity) (i : ℕ) (entity : Entity) → slice_get own i ≡ Some entity
     → entity.name ≡ slice_index_or (firsts same_text (names_in own)) (number_in own entity.name) []
 number-of own i entity at =
-    same_text-tells.only entity.name _
-    (at-position (same_text entity.name) (firsts same_text (names_in own)) (known-name own i entity at))
+    name-at own entity.name
+    (list_any-slice_get same_text same_text-tells (names_in own) entity.name i
+    (slice_get-map (λ (one : Entity). one.name) own i ∙ ap (option_map (λ (one : Entity). one.name)) at))
 
 numbers-tell : (own : List Entity) (i j : ℕ) (one other : Entity) → slice_get own i ≡ Some one
     → slice_get own j ≡ Some other → number_in own one.name ≡ number_in own other.name → one.name ≡ other.name
 numbers-tell own i j one other at there same =
     number-of own i one at ∙ ap (λ n. slice_index_or (firsts same_text (names_in own)) n []) same
     ∙ sym (number-of own j other there)
-
--- a member that passes
-any-at : (test : Declared → Bool) (piece : List Declared) (i : ℕ) (one : Declared) → slice_get piece i ≡ Some one
-    → test one ≡ true → list_any test piece ≡ true
-any-at test [] i one at is = absurd (none-some one at)
-any-at test (this ∷ piece) zero one at is =
-    or_left (test this) (list_any test piece) (ap test (same_Some this one at) ∙ is)
-any-at test (this ∷ piece) (suc i) one at is =
-    or_right (test this) (list_any test piece) (any-at test piece i one at is)
-
-any-in : (test : Declared → Bool) (pieces : List (List Declared)) (m : ℕ) (piece : List Declared)
-    → slice_get pieces m ≡ Some piece → list_any test piece ≡ true → list_any test (entities_in pieces) ≡ true
-any-in test [] m piece at some = absurd (none-some piece at)
-any-in test (this ∷ pieces) zero piece at some =
-    list_any-append test this (entities_in pieces)
-    ∙ or_left (list_any test this) (list_any test (entities_in pieces))
-    (ap (list_any test) (same_Some this piece at) ∙ some)
-any-in test (this ∷ pieces) (suc m) piece at some =
-    list_any-append test this (entities_in pieces)
-    ∙ or_right (list_any test this) (list_any test (entities_in pieces)) (any-in test pieces m piece at some)
-
-from-any : (test : Declared → Bool) (piece : List Declared) → list_any test piece ≡ true
-    → (i : ℕ) × (one : Declared) × (slice_get piece i ≡ Some one) × (test one ≡ true)
-from-any test [] some = absurd (false≢true some)
-from-any test (this ∷ piece) some = by (test this) refl some (from-any test piece)
-  where
-    by : (b : Bool) → test this ≡ b → (b || list_any test piece) ≡ true
-        → (list_any test piece ≡ true → (i : ℕ) × (one : Declared) × (slice_get piece i ≡ Some one) × (test one ≡ true))
-        → (i : ℕ) × (one : Declared) × (slice_get (this ∷ piece) i ≡ Some one) × (test one ≡ true)
-    by true is some later = (0, this, refl, is)
-    by false is some later = let at = later some in (suc at.0, at.1, at.2, at.3)
 
 from-pieces : (test : Declared → Bool) (pieces : List (List Declared)) → list_any test (entities_in pieces) ≡ true
     → (m : ℕ) × (piece : List Declared) × (slice_get pieces m ≡ Some piece) × (list_any test piece ≡ true)
@@ -289,14 +215,6 @@ from-pieces test (this ∷ pieces) some =
         → (m : ℕ) × (piece : List Declared) × (slice_get (this ∷ pieces) m ≡ Some piece) × (list_any test piece ≡ true)
     by true is some later = (0, this, refl, is)
     by false is some later = let at = later some in (suc at.0, at.1, at.2, at.3)
-
-all-here : (test : Declared → Bool) (piece : List Declared) (i : ℕ) (one : Declared) → list_all test piece ≡ true
-    → slice_get piece i ≡ Some one → test one ≡ true
-all-here test [] i one all at = absurd (none-some one at)
-all-here test (this ∷ piece) zero one all at =
-    ap test (sym (same_Some this one at)) ∙ (and_parts (test this) (list_all test piece) all).0
-all-here test (this ∷ piece) (suc i) one all at =
-    all-here test piece i one (and_parts (test this) (list_all test piece) all).1 at
 
 from-entities : (piece : List Declared) (i : ℕ) (entity : Entity)
     → slice_get (map (λ (one : Declared). one.entity) piece) i ≡ Some entity
@@ -335,20 +253,6 @@ key-to : (own : List Entity) (taken : List (Option ℕ)) (test : Sort → Bool) 
 key-to own taken test i n entity at is has =
     (λ k. key_in own test (at k) (has k)) ∙ cond-true (test entity.sort) (Some (number_in own entity.name, n)) None is
 
-some-number : (n : Option ℕ) → is_known_number n ≡ true → (k : ℕ) × (n ≡ Some k)
-some-number None is = absurd (false≢true is)
-some-number (Some k) is = (k, refl)
-
-same-bools : (a b : Bool) → (a ≡ true → b ≡ true) → (b ≡ true → a ≡ true) → a ≡ b
-same-bools true true to from = refl
-same-bools true false to from = absurd (false≢true (to refl))
-same-bools false true to from = absurd (false≢true (from refl))
-same-bools false false to from = refl
-
-not-twice : (b : Bool) → b ≡ not (not b)
-not-twice true = refl
-not-twice false = refl
-
 -- a flag says that a prototype doesn't stand
 hidden-is : (world : World) (pieces : List (List Declared)) (closed : List ℕ) (m : ℕ) (old : Settled) (table : Table)
     (row : Vec (Option ℕ) Global) (hidden : List Bool) → Settles world pieces closed old
@@ -360,16 +264,16 @@ hidden-is : (world : World) (pieces : List (List Declared)) (closed : List ℕ) 
     → slice_index_or hidden i true ≡ not (stands (types_after world (entities_in pieces) k) (entities_in pieces) one)
 hidden-is world pieces closed m old table row hidden settles has_table has_row hiding all i k one at less =
     hiding.are.are i inside
-    ∙ same-bools (has_key hiding.keys (key_at table.own row.items is_prototype i))
+    ∙ both-ways (has_key hiding.keys (key_at table.own row.items is_prototype i))
     (is_prototype one.entity.sort && list_any (defines types one) (entities_in pieces))
     (λ is. to (key_at table.own row.items is_prototype i) refl is) from
-    ∙ not-twice (is_prototype one.entity.sort && list_any (defines types one) (entities_in pieces))
+    ∙ sym (not-not (is_prototype one.entity.sort && list_any (defines types one) (entities_in pieces)))
   where
     types : Declared → List Ty
     types = types_after world (entities_in pieces) k
 
     here : (piece : List Declared) × (slice_get pieces m ≡ Some piece) × IsTable world (0 + m) piece table
-    here = at-table world 0 old.tables.items pieces m table settles.hold.are has_table
+    here = table-at world 0 old.tables.items pieces m table settles.hold.are has_table
 
     piece : List Declared
     piece = here.0
@@ -420,9 +324,9 @@ hidden-is world pieces closed m old table row hidden settles has_table has_row h
         numbers-tell table.own i there.0 one.entity other.0.entity (own-at i one one-at)
         (own-at there.0 other.0 other.1) (one_number ∙ sym other_number) in
         let one_in = eqb-true one.entity.id.module (0 + m)
-        (all-here (λ (d : Declared). d.entity.id.module == 0 + m) piece i one here.2.inside one-at) in
+        (all-at (λ (d : Declared). d.entity.id.module == 0 + m) piece i one here.2.inside one-at) in
         let other_in = eqb-true other.0.entity.id.module (0 + m)
-        (all-here (λ (d : Declared). d.entity.id.module == 0 + m) piece there.0 other.0 here.2.inside other.1) in
+        (all-at (λ (d : Declared). d.entity.id.module == 0 + m) piece there.0 other.0 here.2.inside other.1) in
         let modules = eq-eqb one.entity.id.module other.0.entity.id.module (one_in ∙ sym other_in) in
         let equal : types one ≡ types other.0 =
         takes i key.1 one one-at own.4 ∙ sym (takes there.0 key.1 other.0 other.1 defined.4) in
@@ -431,15 +335,14 @@ hidden-is world pieces closed m old table row hidden settles has_table has_row h
         && ((modules z && (bytes_decides one.entity.name other.0.entity.name).1 names z)
         && (types-decide (types one) (types other.0)).1 equal z) in
         λ z. (ap (λ (e : Entity). is_prototype e.sort) (sym same) ∙ own.2) z
-        && any-in (defines types one) pieces m piece here.1
-        (any-at (defines types one) piece there.0 other.0 other.1 defines_it) z
+        && any-in (defines types one) pieces m there.0 other.0 (placed-at there.0 other.0 other.1) defines_it z
 
     from : (is_prototype one.entity.sort && list_any (defines types one) (entities_in pieces)) ≡ true
         → has_key hiding.keys (key_at table.own row.items is_prototype i) ≡ true
     from both =
         let parts = and_parts (is_prototype one.entity.sort) (list_any (defines types one) (entities_in pieces)) both in
         let there = from-pieces (defines types one) pieces parts.1 in
-        let other = from-any (defines types one) there.1 there.3 in
+        let other = any-of (defines types one) there.1 there.3 in
         let defined = and_parts (is_definition other.1.entity.sort)
         (share_name one other.1 && pointwise same_type (types one) (types other.1)) other.3 in
         let shares = and_parts (share_name one other.1) (pointwise same_type (types one) (types other.1)) defined.1 in
@@ -447,9 +350,9 @@ hidden-is world pieces closed m old table row hidden settles has_table has_row h
         (bytes_eq one.entity.name other.1.entity.name) shares.0 in
         let table_of = at-piece world 0 old.tables.items pieces there.0 there.1 settles.hold.are there.2 in
         let one_in = eqb-true one.entity.id.module (0 + m)
-        (all-here (λ (d : Declared). d.entity.id.module == 0 + m) piece i one here.2.inside one-at) in
+        (all-at (λ (d : Declared). d.entity.id.module == 0 + m) piece i one here.2.inside one-at) in
         let other_in = eqb-true other.1.entity.id.module (0 + there.0)
-        (all-here (λ (d : Declared). d.entity.id.module == 0 + there.0) there.1 other.0 other.1 table_of.2.inside
+        (all-at (λ (d : Declared). d.entity.id.module == 0 + there.0) there.1 other.0 other.1 table_of.2.inside
         other.2) in
         let same_module = eqb-true one.entity.id.module other.1.entity.id.module named.0 in
         let same : there.0 ≡ m = omega (arith, one_in, other_in, same_module) in
@@ -457,18 +360,20 @@ hidden-is world pieces closed m old table row hidden settles has_table has_row h
         same_Some there.1 piece (sym there.2 ∙ ap (slice_get pieces) same ∙ here.1) in
         let other_at : slice_get piece other.0 ≡ Some other.1 = ap (λ p. slice_get p other.0) (sym same_piece)
         ∙ other.2 in
-        let one_number = some-number (taken_at old.taken.items (placed m i)) (all i one at) in
-        let other_number = some-number (taken_at old.taken.items (placed m other.0))
+        let one_number = known-number (taken_at old.taken.items (placed m i)) (all i one at) in
+        let other_number = known-number (taken_at old.taken.items (placed m other.0))
         (all other.0 other.1 (placed-at other.0 other.1 other_at)) in
         let one_taken = sym (taken-is i) ∙ one_number.1 in
-        let other_taken = sym (taken-is other.0) ∙ other_number.1 in
+        let other_taken = ◌∙◌ {c = Some other_number.0} (sym (taken-is other.0)) other_number.1 in
         let equal = (types-decide (types one) (types other.1)).0 shares.1 in
         let numbers : one_number.0 ≡ other_number.0 =
         settles.known.apart one_number.0 other_number.0
         (settles.known.within (placed m i) one_number.0 one_number.1)
         (settles.known.within (placed m other.0) other_number.0 other_number.1)
-        (sym (takes i one_number.0 one one-at one_taken) ∙ equal
-        ∙ takes other.0 other_number.0 other.1 other_at other_taken) in
+        (◌∙◌ {c = slice_index_or old.lists.keys other_number.0 []}
+        (sym (takes i one_number.0 one one-at one_taken))
+        (◌∙◌ {c = slice_index_or old.lists.keys other_number.0 []} equal
+        (takes other.0 other_number.0 other.1 other_at other_taken))) in
         let names = (bytes_decides one.entity.name other.1.entity.name).0 named.1 in
         let one_key = key-to table.own row.items is_prototype i one_number.0 one.entity (own-at i one one-at) parts.0
         one_taken in
@@ -480,7 +385,8 @@ hidden-is world pieces closed m old table row hidden settles has_table has_row h
         ap (has_key hiding.keys) one_key
         ∙ hiding.defined.has other.0 (number_in table.own one.entity.name, one_number.0)
         (slice_get_within table.own other.0 other.1.entity (own-at other.0 other.1 other_at))
-        (other_key ∙ keys_same)
+        (◌∙◌ {b = Some (number_in table.own other.1.entity.name, other_number.0)}
+        {c = Some (number_in table.own one.entity.name, one_number.0)} other_key keys_same)
 
 -- a module whose prototypes are hidden by its functions is closed
 pub close-hidden : (m : ℕ) (old new : Settled) (table now : Table) (row : Vec (Option ℕ) Global)
@@ -501,13 +407,13 @@ close-hidden m old new table now row same_keys same_taken set has_table has_row 
             let same = same_Some now t (sym (get-set_same old.tables.items m table now has_table)
             ∙ ap (λ (tables : List Table). slice_get tables m) (sym set) ∙ has) in
             ap (λ (t : Table). is_hidden t i) (sym same)
-            ∙ hidden-is world pieces closed m old table row now.hidden.items settles has_table has_row hiding all i k one at
-            less;
+            ∙ hidden-is world pieces closed m old table row now.hidden.items settles has_table has_row hiding
+            all i k one at less;
       });
 }
   where
     same-long : (world : World) (pieces : List (List Declared)) → Hold world old.tables.items pieces
         → length table.own ≡ length table.hidden.items
     same-long world pieces hold =
-        let here = at-table world 0 old.tables.items pieces m table hold.are has_table in
+        let here = table-at world 0 old.tables.items pieces m table hold.are has_table in
         ap length here.2.own ∙ length-map here.0 (λ (one : Declared). one.entity) ∙ sym here.2.hidden

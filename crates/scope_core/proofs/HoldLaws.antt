@@ -1,7 +1,6 @@
 -- What is found in tables is what a name finds among the entities that they hold.
-use Rattle.std.proofs.Common.{◌≡◌, ◌∙◌, ◌+◌, ◌-◌, ◌≤◌, ◌++◌, ◌∷◌, ◌==◌, ◌&&◌, not, [], ℕ, suc, Bool, true}
-use Rattle.std.proofs.Common.{false, List}
-use Rattle.std.proofs.Common.{Option, Some, None, refl, sym, ap, slice_get, slice_index_or, map, filter}
+use Rattle.std.proofs.Common.{◌≡◌, ◌∙◌, ◌+◌, ◌-◌, ◌≤◌, ◌++◌, ◌∷◌, ◌==◌, ◌&&◌, not, [], ℕ, suc, Bool, true, false}
+use Rattle.std.proofs.Common.{List, Option, Some, None, refl, sym, ap, slice_get, slice_index_or, map, filter}
 use Rattle.std.proofs.Common.{length, arith}
 use Rattle.std.specs.Prelude.{if◌then◌else◌}
 use Rattle.std.specs.List.{list_any, list_all, flat_map}
@@ -127,7 +126,7 @@ seen-piece world m tables pieces table piece reach name used all at there is =
     start : (j : ℕ) → 0 + j ≡ j
     start j = omega arith
 
-ordered-weaken : (k j : ℕ) (reaches : List Reach) → k ≤ j → Ordered j reaches → Ordered k reaches
+pub ordered-weaken : (k j : ℕ) (reaches : List Reach) → k ≤ j → Ordered j reaches → Ordered k reaches
 ordered-weaken k j [] less ordered = tt
 ordered-weaken k j (reach ∷ reaches) less ordered = (omega (arith, less, ordered.0), ordered.1)
 

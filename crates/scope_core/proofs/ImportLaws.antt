@@ -5,6 +5,7 @@ use Rattle.std.specs.Prelude.{if◌then◌else◌}
 use Rattle.std.specs.List.{list_any, flat_map}
 use Rattle.std.specs.Str.{bytes_eq}
 use Rattle.std.proofs.lemmas.List.{append-nil, append_assoc}
+use Rattle.std.proofs.Math.Bool.{and-false}
 use Rattle.mdl_syntax.specs.declared.names.Ident.{Ident}
 use Rattle.scope_core.specs.declared.looked.ScopeFault.{ScopeFault}
 use Rattle.scope_core.specs.declared.settled.Settled.{Settled}
@@ -20,7 +21,6 @@ use Rattle.scope_core.specs.inside.Rounds.{AreSettled, last_standing}
 use Rattle.scope_core.proofs.KindLaws.{names_of}
 use Rattle.scope_core.proofs.ListedLaws.{least_onto-append}
 use Rattle.scope_core.proofs.ClashLaws.{before-push}
-use Rattle.scope_core.proofs.TwiceLaws.{and-false}
 use Rattle.scope_core.proofs.UnderLaws.{both-none}
 
 flat-push : (f : Ident → List ScopeFault) (names : List Ident) (name : Ident)

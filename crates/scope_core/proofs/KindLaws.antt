@@ -1,7 +1,7 @@
 -- Laws of the sorts of entities.
 use Rattle.std.proofs.Common.{◌≡◌, ◌∙◌, ◌++◌, ◌∷◌, ◌&&◌, ◌||◌, not, [], Bool, true, false, List, map, refl, sym, ap}
 use Rattle.std.specs.List.{list_all}
-use Rattle.std.proofs.Math.Bool.{or-false, or_assoc}
+use Rattle.std.proofs.Math.Bool.{or-false, or_assoc, and-false}
 use Rattle.scope_core.specs.declared.entity.Entity.{Entity}
 use Rattle.scope_core.specs.declared.entity.Sort.{Sort}
 use Rattle.scope_core.specs.declared.entity.Sort.TheVariants as sort
@@ -55,10 +55,6 @@ only-functions (one ∷ entities) = by one.entity.sort (only-functions entities)
     by sort.Enum later = refl
     by sort.EnumValue later = refl
     by sort.Annotation later = and-false (not (kinds_among (names_of entities)).others)
-      where
-        and-false : (b : Bool) → (b && false) ≡ false
-        and-false true = refl
-        and-false false = refl
 
 only-annotations : (entities : List Declared)
     → (not (kinds_among (names_of entities)).others && not (kinds_among (names_of entities)).functions)
@@ -66,10 +62,6 @@ only-annotations : (entities : List Declared)
 only-annotations [] = refl
 only-annotations (one ∷ entities) = by one.entity.sort (only-annotations entities)
   where
-    and-false : (b : Bool) → (b && false) ≡ false
-    and-false true = refl
-    and-false false = refl
-
     by : (sort : Sort)
         → (not (kinds_among (names_of entities)).others && not (kinds_among (names_of entities)).functions)
         ≡ all_annotations entities

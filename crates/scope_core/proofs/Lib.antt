@@ -1,3 +1,4 @@
+mod MemberLaws
 mod PieceLaws
 mod OwnLaws
 mod OrderLaws

@@ -1,22 +1,24 @@
 -- The scopes of a set hold what its names mean.
-use Rattle.std.proofs.Common.{◌≡◌, ◌∙◌, ◌++◌, ◌∷◌, [], ◌<◌, ◌≤◌, ◌+◌, ◌&&◌, ℕ, zero, suc, Bool, true, false}
-use Rattle.std.proofs.Common.{not, List, Some, map, ltb}
-use Rattle.std.proofs.Common.{refl, sym, ap, subst, arith, slice_get, slice_index_or, length, flat_map}
+use Rattle.std.proofs.Common.{◌≡◌, ◌∙◌, ◌++◌, ◌∷◌, [], ◌<◌, ◌≤◌, ◌+◌, ◌&&◌, ℕ, zero, suc, Bool, true, false, not}
+use Rattle.std.proofs.Common.{List, Some, map, ltb, refl, sym, ap, subst, arith, slice_get, slice_index_or, length}
+use Rattle.std.proofs.Common.{flat_map, Result, Ok, Err, IfErr}
 use Rattle.std.specs.List.{list_any, list_all}
-use Rattle.std.proofs.Common.{Result, Ok, Err, IfErr}
 use Rattle.std.specs.Result.{IsErrAnd}
 use Rattle.std.proofs.lemmas.Bool.{and_parts, or_parts, or_from, lt-ltb}
 use Rattle.std.proofs.lemmas.List.{length-map, length-append}
 use Rattle.std.proofs.lemmas.Simd.{map-map}
 use Rattle.std.specs.declared.vec.Vec.{Vec}
 use Rattle.std.specs.declared.alloc.Global.{Global}
-use Rattle.scope_core.specs.declared.brought.Bringing as held
 use Rattle.mdl_syntax.specs.declared.modules.Module.{Module}
 use Rattle.mdl_syntax.specs.Modules.{module_of, Declaration}
 use Rattle.module_set.specs.declared.module_name.ModuleName.{ModuleName}
 use Rattle.module_set.specs.declared.set.ModuleSet.{ModuleSet}
 use Rattle.module_set.specs.Members.{Member, members_from, members_of}
 use Rattle.module_set.specs.ModuleSets.{IsModuleSet, import_links}
+use Rattle.case_table.specs.Lists.{firsts}
+use Rattle.module_set.specs.Names.{same_name}
+use Rattle.case_table.specs.ListLaws.{slice_get-push}
+use Rattle.scope_core.specs.declared.brought.Bringing as held
 use Rattle.scope_core.specs.declared.looked.ScopeFault.{ScopeFault}
 use Rattle.scope_core.specs.declared.declared.Piece.{Piece}
 use Rattle.scope_core.specs.declared.declared.Written.{Written}
@@ -36,21 +38,12 @@ use Rattle.scope_core.specs.inside.Holding.{Hold, AreTables, open_pieces}
 use Rattle.scope_core.specs.inside.Reaching.{bringing_of, froms, modules_of, AreReaches}
 use Rattle.scope_core.specs.inside.Rounds.{Describes, AreSettled, last_types, last_standing, entities_in}
 use Rattle.scope_core.specs.inside.Scoping.{ArePieces, AreInside, AreMade, AreWritten, NoneHidden, brought_all}
-use Rattle.case_table.specs.Lists.{firsts}
-use Rattle.module_set.specs.Names.{same_name}
 use Rattle.scope_core.specs.inside.Checking.{faults_of, faults_in}
 use Rattle.scope_core.proofs.FoundIsLaws.{reaches-at}
-use Rattle.scope_core.proofs.VisibleLaws.{open-are}
+use Rattle.scope_core.proofs.VisibleLaws.{open-are, tables-long}
 use Rattle.scope_core.proofs.ScopingLaws.{entities-inside}
 use Rattle.scope_core.proofs.VariantLaws.{prototypes-are}
 use Rattle.scope_core.proofs.SetLaws.{members-count, links-are, links-within, pieces-are, brings-are}
-
-tables-long : (world : World) (k : ℕ) (tables : List Table) (pieces : List (List Declared))
-    → AreTables world k tables pieces → length tables ≡ length pieces
-tables-long world k [] [] are = refl
-tables-long world k [] (p ∷ pieces) are = absurd are
-tables-long world k (t ∷ tables) [] are = absurd are
-tables-long world k (t ∷ tables) (p ∷ pieces) are = ap suc (tables-long world (suc k) tables pieces are.1)
 
 none-past : (brings : List (List Bringing)) (n : ℕ) → length brings ≤ n → slice_index_or brings n [] ≡ []
 none-past [] n past = refl
@@ -195,20 +188,16 @@ faults-are set is =
         let long = pieces-count (members_of set) in
         omega (arith, count, same, long)
 
-last-of : {A : Type 0} (xs : List A) (x : A) (n : ℕ) → n ≡ length xs → slice_get (xs ++ x ∷ []) n ≡ Some x
-last-of [] x zero is = refl
-last-of [] x (suc n) is = absurd (omega (arith, is))
-last-of (y ∷ xs) x zero is = absurd (omega (arith, is))
-last-of (y ∷ xs) x (suc n) is = last-of xs x n (omega (arith, is))
-
 -- behind the pieces of the modules stands that of the prelude
 pub prelude-last : (members : List Member) (n : ℕ) → n ≡ length members
     → slice_get (pieces_of members) n ≡ Some (prelude n)
 prelude-last members n is =
     let own = entities-long 0 (map (λ (member : Member). member.tree.declarations) members) in
     let same = length-map members (λ (member : Member). member.tree.declarations) in
-    last-of (entities_from 0 (map (λ (member : Member). member.tree.declarations) members)) (prelude (length members)) n
-    (omega (arith, is, own, same)) ∙ ap (λ k. Some (prelude k)) (sym is)
+    let pieces = entities_from 0 (map (λ (member : Member). member.tree.declarations) members) in
+    let last : n ≡ length pieces = omega (arith, is, own, same) in
+    ap (slice_get (pieces ++ prelude (length members) ∷ [])) last ∙ slice_get-push pieces (prelude (length members))
+    ∙ ap (λ k. Some (prelude k)) (sym is)
 
 -- what is brought comes from the same modules however it is held
 pub sources-are : (brought : List (Vec held.Bringing Global))
@@ -284,7 +273,7 @@ set-describes set scene is names written = record {
 }
 
 -- so all are settled
-pub set-settles : (set : ModuleSet) (brought : List (Vec held.Bringing Global)) (scene : Scene) (tables : List Table)
+pub modules-settle : (set : ModuleSet) (brought : List (Vec held.Bringing Global)) (scene : Scene) (tables : List Table)
     (settled : Settled) → IsModuleSet set → held_all brought ≡ (world_of set.names (members_of set)).brings
     → scene.names.now ≡ set.names
     → AreMade (world_of set.names (members_of set)) (pieces_of (members_of set)) tables scene.written.now
@@ -292,7 +281,7 @@ pub set-settles : (set : ModuleSet) (brought : List (Vec held.Bringing Global)) 
     → NoneHidden tables → world.brings ≡ held_all brought → length world.brings ≡ length world.names
     → AreSettled world pieces settled)
     → AreSettled (world_of set.names (members_of set)) (pieces_of (members_of set)) settled
-set-settles set brought scene tables settled is brings names made settles =
+modules-settle set brought scene tables settled is brings names made settles =
     settles (world_of set.names (members_of set)) (pieces_of (members_of set))
     (set-describes set scene is names made.written_are)
     (set-holds set tables scene.written.now is made) made.none_hidden
@@ -331,5 +320,5 @@ all-settled-of set brought pieces tables scene settled names modules is names_ar
     ++ prelude (length modules) ∷ []) pieces) modules_are are) made in (
       brings,
       tabled.written_are,
-      set-settles set brought scene tables settled is brings (shown ∙ names_are) tabled settles,
+      modules-settle set brought scene tables settled is brings (shown ∙ names_are) tabled settles,
     )

@@ -18,7 +18,8 @@ use Rattle.scope_core.specs.ScopeFaults.{IsLeast}
 use Rattle.scope_core.specs.OneScopeFault.{OneScopeFault}
 use Rattle.scope_core.specs.inside.Lessening.{least_onto}
 use Rattle.scope_core.proofs.LeastLaws.{least_onto-least, least_onto-none}
-use Rattle.scope_core.proofs.CheckLaws.{Accepts, module-pass, both-all, all-at, any-at-false}
+use Rattle.scope_core.proofs.CheckLaws.{Accepts, module-pass}
+use Rattle.scope_core.proofs.MemberLaws.{both-all, all-at, any-at-false}
 
 abbrev is_told : ScopeFault → Bool
 is_told fault.OutOfMemory = false

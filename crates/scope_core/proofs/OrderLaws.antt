@@ -1,14 +1,14 @@
 -- The walk over the modules, step by step.
-use Rattle.std.proofs.Common.{◌≡◌, ◌≢◌, ◌⊎◌, inl, inr, ℕ, suc, zero, ◌+◌, ◌-◌, ◌≤◌, ◌<◌, ◌==◌, ◌||◌, Bool, true}
+use Rattle.std.proofs.Common.{◌≡◌, ◌⊎◌, inl, inr, ℕ, suc, zero, ◌+◌, ◌-◌, ◌≤◌, ◌<◌, ◌==◌, ◌||◌, Bool, true}
 use Rattle.std.proofs.Common.{false, List, [], ◌∷◌, ◌++◌, length, take, reverse, slice_get, slice_set}
 use Rattle.std.proofs.Common.{slice_index_or, Some, None, ltb, refl, sym, ap, ◌∙◌, subst, arith, if◌then◌else◌}
 use Rattle.std.specs.List.{list_any, list_all}
-use Rattle.std.proofs.lemmas.Bool.{false≢true, both_ways, false_from_ne_true, cases_lt, and_parts, and_from, or_cases}
-use Rattle.std.proofs.lemmas.Bool.{or_parts, or_from, or_left, or_right, ltb-true, lt-ltb}
-use Rattle.std.proofs.lemmas.List.{reverse-append, length-set, length_push, get_or-set_same}
-use Rattle.std.proofs.lemmas.List.{get_or-set_other, set-get_or, take_all, take_at, take-append-le, take_more}
-use Rattle.std.proofs.lemmas.List.{get_or_past}
+use Rattle.std.proofs.lemmas.Bool.{false≢true, both_ways, cases_lt, and_parts, and_from, or_cases, or_parts}
+use Rattle.std.proofs.lemmas.Bool.{or_from, or_left, or_right, ltb-true, lt-ltb, eqb-true, eqb-false}
+use Rattle.std.proofs.lemmas.List.{reverse-append, length-set, length_push, get_or-set_same, get_or-set_other}
+use Rattle.std.proofs.lemmas.List.{set-get_or, take_all, take_at, take-append-le, take_more, get_or_past}
 use Rattle.std.proofs.lemmas.Option.{none-some, same_Some, slice_get-get_or, slice_get_within, get_or_from_slice_get}
+use Rattle.std.proofs.Math.Bool.{or-false, or_assoc}
 use Rattle.case_table.specs.Lists.{firsts, with_first}
 use Rattle.case_table.specs.ListLaws.{firsts-push, with_first-new, slice_get-append, slice_get-push}
 use Rattle.module_set.specs.Cycles.{leads, leads_over, HasNoCycle}
@@ -17,38 +17,18 @@ use Rattle.scope_core.specs.declared.order.Walk.{Walk}
 use Rattle.scope_core.specs.inside.Order.{is_among, are_below, AreWithin, IsOrder}
 use Rattle.scope_core.specs.inside.Ordering.{targets_of, modules, begun, gone_on, IsFresh, IsBehind, StandUnder, Stand}
 use Rattle.scope_core.specs.inside.Ordering.{IsWalk, unseen, left, visited, Keeps, Visits, Steps, Ends, Walked}
-
-same-number : (a b : ℕ) → (a == b) ≡ true → a ≡ b
-same-number a b h = grind arith
-
-other-number : (a b : ℕ) → (a == b) ≡ false → a ≢ b
-other-number a b h = grind arith
+use Rattle.scope_core.proofs.MemberLaws.{numbers, turned, all-at, any-at, both-all}
 
 itself : (a : ℕ) → (a == a) ≡ true
 itself a = grind arith
-
-flipped : (a b : ℕ) → (a == b) ≡ (b == a)
-flipped a b = by (a == b) refl
-  where
-    by : (c : Bool) → (a == b) ≡ c → c ≡ (b == a)
-    by true e = sym (subst (λ k. (k == a) ≡ true) (same-number a b e) (itself a))
-    by false e = sym (false_from_ne_true (b == a) (λ h. other-number a b e (sym (same-number b a h))))
-
-or-false : (b : Bool) → (b || false) ≡ b
-or-false true = refl
-or-false false = refl
-
-or_assoc : (a b c : Bool) → (a || (b || c)) ≡ ((a || b) || c)
-or_assoc true b c = refl
-or_assoc false b c = refl
 
 -- members of a list
 among-push : (ms : List ℕ) (m x : ℕ) → is_among (ms ++ m ∷ []) x ≡ (is_among ms x || (m == x))
 among-push [] m x = or-false (m == x)
 among-push (y ∷ ms) m x =
-    ap (λ (b : Bool). (y == x) || b) (among-push ms m x) ∙ or_assoc (y == x) (is_among ms x) (m == x)
+    ap (λ (b : Bool). (y == x) || b) (among-push ms m x) ∙ sym (or_assoc (y == x) (is_among ms x) (m == x))
 
-among-last : (ms : List ℕ) (m : ℕ) → is_among (ms ++ m ∷ []) m ≡ true
+pub among-last : (ms : List ℕ) (m : ℕ) → is_among (ms ++ m ∷ []) m ≡ true
 among-last ms m = among-push ms m m ∙ or_right (is_among ms m) (m == m) (itself m)
 
 among-kept : (ms : List ℕ) (m x : ℕ) → is_among ms x ≡ true → is_among (ms ++ m ∷ []) x ≡ true
@@ -65,15 +45,13 @@ among-before ms m last x e =
     by (inr h) = or_right (is_among (ms ++ m ∷ []) x) (last == x) h
 
 among-get : (xs : List ℕ) (k x : ℕ) → slice_get xs k ≡ Some x → is_among xs x ≡ true
-among-get [] k x at = absurd (none-some x at)
-among-get (y ∷ xs) zero x at =
-    or_left (y == x) (is_among xs x) (subst (λ z. (z == x) ≡ true) (sym (same_Some y x at)) (itself x))
-among-get (y ∷ xs) (suc k) x at = or_right (y == x) (is_among xs x) (among-get xs k x at)
+among-get xs k x at = any-at (λ y. y == x) xs k x at (itself x)
 
 any-flipped : (xs : List ℕ) (x : ℕ) → list_any (◌==◌ x) xs ≡ is_among xs x
 any-flipped [] x = refl
 any-flipped (y ∷ xs) x =
-    ap (λ (b : Bool). b || list_any (◌==◌ x) xs) (flipped x y) ∙ ap (λ (b : Bool). (y == x) || b) (any-flipped xs x)
+    ap (λ (b : Bool). b || list_any (◌==◌ x) xs) (turned ◌==◌ numbers x y)
+    ∙ ap (λ (b : Bool). (y == x) || b) (any-flipped xs x)
 
 apart-push : (ms : List ℕ) (m : ℕ) → firsts ◌==◌ ms ≡ ms → is_among ms m ≡ false →
     firsts ◌==◌ (ms ++ m ∷ []) ≡ ms ++ m ∷ []
@@ -91,23 +69,13 @@ all-mono p q h (x ∷ xs) all =
 
 all-push : (p : ℕ → Bool) (xs : List ℕ) (x : ℕ) → list_all p xs ≡ true → p x ≡ true →
     list_all p (xs ++ x ∷ []) ≡ true
-all-push p [] x all h = and_from (p x) true h refl
-all-push p (y ∷ xs) x all h =
-    let parts = and_parts (p y) (list_all p xs) all in
-    and_from (p y) (list_all p (xs ++ x ∷ [])) parts.0 (all-push p xs x parts.1 h)
+all-push p xs x all h = both-all p xs (x ∷ []) all (and_from (p x) true h refl)
 
 all-among : (p : ℕ → Bool) (xs : List ℕ) → ((x : ℕ) → is_among xs x ≡ true → p x ≡ true) → list_all p xs ≡ true
 all-among p [] h = refl
 all-among p (y ∷ xs) h =
     and_from (p y) (list_all p xs) (h y (or_left (y == y) (is_among xs y) (itself y)))
     (all-among p xs (λ x e. h x (or_right (y == x) (is_among xs x) e)))
-
-all-at : {A : Type 0} (p : A → Bool) (xs : List A) (k : ℕ) (x : A) → list_all p xs ≡ true → slice_get xs k ≡ Some x →
-    p x ≡ true
-all-at p [] k x all at = absurd (none-some x at)
-all-at p (y ∷ xs) zero x all at =
-    subst (λ z. p z ≡ true) (same_Some y x at) (and_parts (p y) (list_all p xs) all).0
-all-at p (y ∷ xs) (suc k) x all at = all-at p xs k x (and_parts (p y) (list_all p xs) all).1 at
 
 -- what is imported is a module
 pub target-within : (links : List (List ℕ)) (m n t : ℕ) → AreWithin links →
@@ -147,7 +115,7 @@ fresh-done : (done ms : List ℕ) (m : ℕ) → IsFresh done ms → is_among ms 
 fresh-done done [] m h out = tt
 fresh-done done (x ∷ ms) m h out =
     let parts = or_parts (x == m) (is_among ms m) out in (
-      among-push done m x ∙ or_from (is_among done x) (m == x) h.0 (flipped m x ∙ parts.0),
+      among-push done m x ∙ or_from (is_among done x) (m == x) h.0 (turned ◌==◌ numbers m x ∙ parts.0),
       h.1,
       fresh-done done ms m h.2 parts.1,
     )
@@ -157,7 +125,7 @@ here : (links : List (List ℕ)) (above t : ℕ) (way : List ℕ) → HasNoCycle
     (others : Bool) → (others ≡ true → ⊥) → (b : Bool) → (above == t) ≡ b → (b || others) ≡ true → ⊥
 here links above t way none over others later true same among =
     both_ways (leads_over links t way t) (none (t ∷ way))
-    (subst (λ k. leads_over links k way t ≡ true) (same-number above t same) over)
+    (subst (λ k. leads_over links k way t ≡ true) (eqb-true above t same) over)
 here links above t way none over others later false same among = later among
 
 on-path : (links : List (List ℕ)) (done : List ℕ) (above : ℕ) (rest : List Opened) → StandUnder links done above rest →
@@ -227,7 +195,7 @@ walk-ends : (links : List (List ℕ)) (seen : List Bool) (last : Opened) (rest :
 walk-ends links seen last rest done walk at = record {
   long = walk.long;
   seen_are = λ m. walk.seen_are m
-      ∙ (or_assoc (is_among done m) (last.index == m) (is_among (modules rest) m)
+      ∙ (sym (or_assoc (is_among done m) (last.index == m) (is_among (modules rest) m))
       ∙ ap (λ (b : Bool). b || is_among (modules rest) m) (sym (among-push done last.index m)));
   fresh = fresh-done done (modules rest) last.index walk.fresh.2 walk.fresh.1;
   apart = apart-push done last.index walk.apart walk.fresh.0;
@@ -281,11 +249,11 @@ walk-opened links seen stack others done t walk same new inside stand =
     by : (m : ℕ) (b : Bool) → (t == m) ≡ b →
         slice_index_or (slice_set seen t true) m false ≡ (is_among done m || (b || is_among (modules others) m))
     by m true e =
-        subst (λ k. slice_index_or (slice_set seen t true) k false ≡ true) (same-number t m e)
+        subst (λ k. slice_index_or (slice_set seen t true) k false ≡ true) (eqb-true t m e)
         (get_or-set_same seen t true false inside)
         ∙ sym (or_right (is_among done m) true refl)
     by m false e =
-        get_or-set_other seen t m true false (λ k. other-number t m e (sym k))
+        get_or-set_other seen t m true false (λ k. eqb-false t m e (sym k))
         ∙ (walk.seen_are m ∙ ap (λ (ms : List ℕ). is_among done m || is_among ms m) (sym same))
 
 walk-opens : (links : List (List ℕ)) (seen : List Bool) (last : Opened) (rest : List Opened) (done : List ℕ) (t : ℕ) →
@@ -314,10 +282,10 @@ set-keeps seen t m is = by (t == m) refl
   where
     by : (b : Bool) → (t == m) ≡ b → slice_index_or (slice_set seen t true) m false ≡ true
     by true e =
-        let same = same-number t m e in
+        let same = eqb-true t m e in
         subst (λ k. slice_index_or (slice_set seen t true) k false ≡ true) same
         (get_or-set_same seen t true false (omega (arith, seen-within seen m is, same)))
-    by false e = get_or-set_other seen t m true false (λ k. other-number t m e (sym k)) ∙ is
+    by false e = get_or-set_other seen t m true false (λ k. eqb-false t m e (sym k)) ∙ is
 
 unseen-set : (links : List (List ℕ)) (seen : List Bool) (t : ℕ) → length seen ≡ length links →
     slice_index_or seen t false ≡ false → t < length seen →
@@ -448,12 +416,12 @@ walked-more links root now mid new walked inside visits ends = record {
         ends.kept m
         (ap (λ (flags : List Bool). slice_index_or flags m false) visits.seen
         ∙ subst (λ k. slice_index_or (slice_set now.seen.items root true) k false ≡ true)
-        (sym (same-number m root e))
+        (sym (eqb-true m root e))
         (get_or-set_same now.seen.items root true false (omega (arith, walked.walk.long, inside))))
     by m below false e =
         ends.kept m
         (ap (λ (flags : List Bool). slice_index_or flags m false) visits.seen
-        ∙ set-keeps now.seen.items root m (walked.each m (omega (arith, below, other-number m root e))))
+        ∙ set-keeps now.seen.items root m (walked.each m (omega (arith, below, eqb-false m root e))))
 
 -- where each module was walked, those that have ended are in order
 pub walked-all : (links : List (List ℕ)) (root : ℕ) (now : Walk) → Walked links root now → length links ≤ root →

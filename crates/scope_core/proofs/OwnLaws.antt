@@ -1,22 +1,20 @@
 -- Laws of entities by their names.
 use Rattle.std.proofs.Common.{◌≡◌, ◌∙◌, ◌++◌, ◌∷◌, ◌+◌, [], ℕ, zero, suc, Bool, true, false, List, Some, None}
-use Rattle.std.proofs.Common.{option_map, ◌||◌}
-use Rattle.std.proofs.Common.{map, length, slice_get, slice_set, get_or, cond, refl, sym, ap, subst, arith, not}
-use Rattle.std.proofs.Common.{if◌then◌else◌, nat_lt}
+use Rattle.std.proofs.Common.{option_map, ◌||◌, map, length, slice_get, slice_set, get_or, cond, refl, sym, ap}
+use Rattle.std.proofs.Common.{subst, arith, not, if◌then◌else◌, nat_lt, ◌<◌, ◌==◌}
 use Rattle.std.specs.List.{list_any, AllByRecursion, IsDistinct, position, position_or_len}
 use Rattle.std.specs.Cmp.Lexicographic.{bytes_decides}
 use Rattle.std.proofs.lemmas.Bool.{false≢true, false_from_ne_true, cond-true, cond-false, or_parts, ltb-false}
-use Rattle.std.proofs.lemmas.Bool.{cond_both}
-use Rattle.std.proofs.lemmas.List.{map-append, append-nil, get_or-map}
-use Rattle.std.proofs.Math.Bool.{or-false, or_assoc}
-use Rattle.std.proofs.lemmas.List.Folds.{list_any-append}
+use Rattle.std.proofs.lemmas.List.{map-append, append-nil, get_or-map, length-map}
 use Rattle.std.proofs.lemmas.List.Quantifiers.{position-Some}
-use Rattle.std.proofs.lemmas.List.Sums.{prefix_len-le-length}
+use Rattle.std.proofs.lemmas.List.Sums.{prefix_len-le-length, passes_at_first}
 use Rattle.std.proofs.lemmas.Option.{same_Some, none-some, slice_get-map}
+use Rattle.std.proofs.lemmas.Bool.{eq-eqb, ne_eqb}
 use Rattle.case_table.specs.Lists.{Tells, with_first, firsts, firsts_onto}
-use Rattle.case_table.specs.ListLaws.{firsts-push, with_first-known, with_first-new}
+use Rattle.case_table.specs.ListLaws.{firsts-push, with_first-known, with_first-new, length-firsts_onto-le}
 use Rattle.scope_core.specs.declared.entity.Entity.{Entity}
-use Rattle.scope_core.specs.inside.Owning.{same_text, names_in, indices_from, indices_of, AreOwn}
+use Rattle.scope_core.specs.inside.Owning.{same_text, names_in, indices_from, indices_of, AreOwn, number_in}
+use Rattle.scope_core.proofs.MemberLaws.{turned, any-firsts_onto}
 
 pub same_text-tells : Tells same_text
 same_text-tells = record {
@@ -24,11 +22,11 @@ same_text-tells = record {
   only = λ one other h. (bytes_decides one other).0 h;
 }
 
-all-at : {A : Type 0} (P : A → Type 0) (xs : List A) (k : ℕ) (x : A) → AllByRecursion P xs → slice_get xs k ≡ Some x
+each-at : {A : Type 0} (P : A → Type 0) (xs : List A) (k : ℕ) (x : A) → AllByRecursion P xs → slice_get xs k ≡ Some x
     → P x
-all-at P [] k x h at = absurd (none-some x at)
-all-at P (y ∷ xs) zero x h at = subst P (same_Some y x at) h.0
-all-at P (y ∷ xs) (suc k) x h at = all-at P xs k x h.1 at
+each-at P [] k x h at = absurd (none-some x at)
+each-at P (y ∷ xs) zero x h at = subst P (same_Some y x at) h.0
+each-at P (y ∷ xs) (suc k) x h at = each-at P xs k x h.1 at
 
 -- one more entity
 indices-push : (name : List ℕ) (i : ℕ) (entities : List Entity) (entity : Entity)
@@ -80,7 +78,7 @@ grown before after name known i zero (one ∷ names) distinct at same others own
     unchanged (other ∷ names) apart = λ k. others other apart.0 k ∷ unchanged names apart.1 k
 grown before after name known i (suc p) (one ∷ names) distinct at same others own =
     let is = same_text-tells.only name known same in
-    let apart = all-at (λ other. same_text one other ≡ false) names p known distinct.0 at in
+    let apart = each-at (λ other. same_text one other ≡ false) names p known distinct.0 at in
     let other = false_from_ne_true (same_text name one)
     (λ yes. false≢true (sym apart ∙ ap (λ n. same_text n known) (sym (same_text-tells.only name one yes)) ∙ same)) in
     λ k. others one other k ∷ grown before after name known i p names distinct.1 at same others own k
@@ -98,43 +96,10 @@ number-none test names none =
         let past = ltb-false (position_or_len test names) (length names) is in
         omega (arith, prefix_len-le-length (λ name. not (test name)) names, past)
 
--- equality goes both ways
-flipped : (one other : List ℕ) → same_text one other ≡ false → same_text other one ≡ false
-flipped one other apart =
-    false_from_ne_true (same_text other one)
-    (λ yes. false≢true (sym apart ∙ ap (λ text. same_text text other) (sym (same_text-tells.only other one yes))
-    ∙ same_text-tells.itself other))
-
--- a text that equals one of a list is in it
-any-known : (text one : List ℕ) (texts : List (List ℕ)) → same_text text one ≡ true
-    → list_any (same_text one) texts ≡ true → list_any (same_text text) texts ≡ true
-any-known text one texts same known =
-    ap (λ t. list_any (same_text t) texts) (same_text-tells.only text one same) ∙ known
-
-any-with_first : (text one : List ℕ) (texts : List (List ℕ))
-    → list_any (same_text text) (with_first same_text texts one)
-    ≡ (list_any (same_text text) texts || same_text text one)
-any-with_first text one texts =
-    cond_both (list_any (same_text one) texts) texts (texts ++ one ∷ [])
-    (λ l. list_any (same_text text) l ≡ (list_any (same_text text) texts || same_text text one))
-    (λ known. by (same_text text one) (any-known text one texts) known)
-    (λ new. list_any-append (same_text text) texts (one ∷ [])
-    ∙ ap (λ b. list_any (same_text text) texts || b) (or-false (same_text text one)))
-  where
-    by : (b : Bool) → (b ≡ true → list_any (same_text one) texts ≡ true → list_any (same_text text) texts ≡ true)
-        → list_any (same_text one) texts ≡ true
-        → list_any (same_text text) texts ≡ (list_any (same_text text) texts || b)
-    by true is known = is refl known ∙ ap (λ b. b || true) (sym (is refl known))
-    by false is known = sym (or-false (list_any (same_text text) texts))
-
 pub any-onto : (text : List ℕ) (seen texts : List (List ℕ))
     → list_any (same_text text) (firsts_onto same_text seen texts)
     ≡ (list_any (same_text text) seen || list_any (same_text text) texts)
-any-onto text seen [] = sym (or-false (list_any (same_text text) seen))
-any-onto text seen (one ∷ texts) =
-    any-onto text (with_first same_text seen one) texts
-    ∙ ap (λ b. b || list_any (same_text text) texts) (any-with_first text one seen)
-    ∙ or_assoc (list_any (same_text text) seen) (same_text text one) (list_any (same_text text) texts)
+any-onto text seen texts = any-firsts_onto same_text same_text-tells (same_text text) seen texts
 
 -- the names of one more entity
 firsts-ends : (entities : List Entity) (entity : Entity)
@@ -150,7 +115,8 @@ other-name : (entities : List Entity) (entity : Entity) (name : List ℕ) → sa
 other-name entities entity name other =
     indices-push name 0 entities entity
     ∙ ap (λ l. indices_of entities name ++ l)
-    (cond-false (same_text name entity.name) ((0 + length entities) ∷ []) [] (flipped entity.name name other))
+    (cond-false (same_text name entity.name) ((0 + length entities) ∷ []) []
+    (turned same_text same_text-tells name entity.name ∙ other))
     ∙ append-nil (indices_of entities name)
 
 own-name : (entities : List Entity) (entity : Entity) (i : ℕ) (name : List ℕ) → length entities ≡ i
@@ -245,3 +211,54 @@ pub missed-list : (entities : List Entity) (names lists : List (List ℕ)) (name
 missed-list entities names lists name own missed =
     sym (indices-none name 0 entities
     (sym (any-onto name [] (names_in entities)) ∙ ap (list_any (same_text name)) (sym own.names_are) ∙ missed))
+
+-- the number of a name that an entity has
+abbrev all_names : List Entity → List (List ℕ)
+all_names entities = firsts same_text (names_in entities)
+
+first-within : {X : Type 0} (test : X → Bool) (xs : List X) → list_any test xs ≡ true
+    → position_or_len test xs < length xs
+first-within test [] some = absurd (false≢true some)
+first-within test (x ∷ xs) some = by (test x) some (first-within test xs)
+  where
+    by : (b : Bool) → (b || list_any test xs) ≡ true → (list_any test xs ≡ true → position_or_len test xs < length xs)
+        → cond (not b) (1 + position_or_len test xs) 0 < suc (length xs)
+    by true some later = omega arith
+    by false some later = omega (arith, later some)
+
+among-names : (entities : List Entity) (name : List ℕ) → list_any (same_text name) (names_in entities) ≡ true
+    → list_any (same_text name) (all_names entities) ≡ true
+among-names entities name known = any-onto name [] (names_in entities) ∙ known
+
+pub number-within : (entities : List Entity) (name : List ℕ) → list_any (same_text name) (names_in entities) ≡ true
+    → number_in entities name < length entities
+number-within entities name known =
+    let less = first-within (same_text name) (all_names entities) (among-names entities name known) in
+    let most = length-firsts_onto-le same_text [] (names_in entities) in
+    let long = length-map entities (λ (entity : Entity). entity.name) in
+    omega (arith, less, most, long)
+
+pub name-at : (entities : List Entity) (name : List ℕ) → list_any (same_text name) (names_in entities) ≡ true
+    → name ≡ get_or (all_names entities) (number_in entities name) []
+name-at entities name known =
+    same_text-tells.only name (get_or (all_names entities) (number_in entities name) [])
+    (passes_at_first (same_text name) (all_names entities) []
+    (first-within (same_text name) (all_names entities) (among-names entities name known)))
+
+pub same-number : (entities : List Entity) (one other : List ℕ)
+    → list_any (same_text one) (names_in entities) ≡ true → list_any (same_text other) (names_in entities) ≡ true
+    → (number_in entities one == number_in entities other) ≡ same_text other one
+same-number entities one other known there = by (same_text other one) refl
+  where
+    by : (b : Bool) → same_text other one ≡ b → (number_in entities one == number_in entities other)
+        ≡ same_text other one
+    by true same =
+        eq-eqb (number_in entities one) (number_in entities other)
+        (ap (number_in entities) (sym (same_text-tells.only other one same)))
+        ∙ sym same
+    by false apart =
+        ne_eqb (number_in entities one) (number_in entities other)
+        (λ e. false≢true (sym apart ∙ ap (same_text other)
+        (name-at entities one known ∙ ap (λ n. get_or (all_names entities) n []) e ∙ sym (name-at entities other there))
+        ∙ same_text-tells.itself other))
+        ∙ sym apart

@@ -1,13 +1,11 @@
 -- Laws of what a module sees.
-use Rattle.std.proofs.Common.{◌≡◌, ◌∙◌, ◌++◌, ◌∷◌, ◌+◌, ◌<◌, ◌≤◌, ◌==◌, ◌&&◌, ◌||◌, [], ℕ, zero, suc, Bool}
-use Rattle.std.proofs.Common.{true, false, List, Some, option_map}
-use Rattle.std.proofs.Common.{take, length, get_or, slice_get, slice_set, refl, sym, ap, subst, arith}
-use Rattle.std.proofs.Common.{if◌then◌else◌, ◌⊎◌, inl, inr}
+use Rattle.std.proofs.Common.{◌≡◌, ◌∙◌, ◌++◌, ◌∷◌, ◌+◌, ◌<◌, ◌≤◌, ◌==◌, ◌&&◌, ◌||◌, [], ℕ, zero, suc, Bool, true}
+use Rattle.std.proofs.Common.{false, List, Some, option_map, take, length, get_or, slice_get, slice_set, refl, sym}
+use Rattle.std.proofs.Common.{ap, subst, arith, if◌then◌else◌, ◌⊎◌, inl, inr}
 use Rattle.std.specs.List.{list_any, list_all, position}
 use Rattle.std.specs.List.Sorted.{IsNonDecreasing, IsPermutation}
 use Rattle.std.proofs.Math.Bool.{or-false, or_assoc}
-use Rattle.std.proofs.lemmas.Bool.{false≢true, or_left, or_right, false_from_ne_true, cond_both, eqb-true}
-use Rattle.std.proofs.lemmas.Bool.{eq-eqb, ne_eqb, cases_eq}
+use Rattle.std.proofs.lemmas.Bool.{false≢true, or_left, cond_both, eqb-true, eq-eqb, ne_eqb, cases_eq}
 use Rattle.std.proofs.lemmas.List.{append-nil, append_assoc, map-append, map-set, take_more}
 use Rattle.std.proofs.lemmas.List.Elements.{filter-append}
 use Rattle.std.proofs.lemmas.List.Folds.{list_any-append}
@@ -15,8 +13,8 @@ use Rattle.std.proofs.lemmas.List.Quantifiers.{position-Some}
 use Rattle.std.proofs.lemmas.List.Sorted.{list_any-IsPermutation}
 use Rattle.std.proofs.lemmas.Option.{same_Some, none-some, slice_get-map, slice_get_within, slice_get-get_or}
 use Rattle.std.proofs.lemmas.Option.{get_or_from_slice_get}
-use Rattle.case_table.specs.Lists.{Tells as IsTest, with_first, firsts, firsts_onto, place_of}
-use Rattle.case_table.specs.ListLaws.{firsts-push, firsts-firsts, slice_get-place_of, slice_get-once}
+use Rattle.case_table.specs.Lists.{with_first, firsts, firsts_onto}
+use Rattle.case_table.specs.ListLaws.{firsts-push, firsts-firsts, slice_get-once}
 use Rattle.mdl_syntax.specs.declared.names.Ident.{Ident}
 use Rattle.scope_core.specs.Brought.{Bringing}
 use Rattle.scope_core.specs.Visible.{lists}
@@ -26,56 +24,9 @@ use Rattle.scope_core.specs.inside.Owning.{same_text}
 use Rattle.scope_core.specs.inside.Reaching.{is_listed, brings_it, Tells, Grows, names_it, froms, from_module}
 use Rattle.scope_core.specs.inside.Reaching.{modules_of, Ascends, AreTold, TakesIn, AreReaches}
 use Rattle.scope_core.proofs.OwnLaws.{same_text-tells}
-
-numbers : IsTest ◌==◌
-numbers = record {
-  itself = λ n. eq-eqb n n refl;
-  only = λ m n h. eqb-true m n h;
-}
-
--- a member that passes
-any-member : {A : Type 0} (test : A → Bool) (xs : List A) (k : ℕ) (x : A) → slice_get xs k ≡ Some x → test x ≡ true
-    → list_any test xs ≡ true
-any-member test [] k x at passes = absurd (none-some x at)
-any-member test (y ∷ xs) zero x at passes =
-    or_left (test y) (list_any test xs) (ap test (same_Some y x at) ∙ passes)
-any-member test (y ∷ xs) (suc k) x at passes =
-    or_right (test y) (list_any test xs) (any-member test xs k x at passes)
-
--- a test that one of a list passes where it is told that some does
-absorbed : (a b : Bool) → (b ≡ true → a ≡ true) → a ≡ (a || b)
-absorbed true b h = refl
-absorbed false true h = h refl
-absorbed false false h = refl
-
-any-with_first : {A : Type 0} (same : A → A → Bool) → IsTest same → (test : A → Bool) (xs : List A) (x : A)
-    → list_any test (with_first same xs x) ≡ (list_any test xs || test x)
-any-with_first same tells test xs x =
-    cond_both (list_any (same x) xs) xs (xs ++ x ∷ []) (λ l. list_any test l ≡ (list_any test xs || test x))
-    (λ known. absorbed (list_any test xs) (test x)
-    (any-member test xs (place_of same x xs) x (slice_get-place_of same tells xs x known)))
-    (λ new. list_any-append test xs (x ∷ []) ∙ ap (λ b. list_any test xs || b) (or-false (test x)))
-
-any-firsts_onto : {A : Type 0} (same : A → A → Bool) → IsTest same → (test : A → Bool) (seen xs : List A)
-    → list_any test (firsts_onto same seen xs) ≡ (list_any test seen || list_any test xs)
-any-firsts_onto same tells test seen [] = sym (or-false (list_any test seen))
-any-firsts_onto same tells test seen (x ∷ xs) =
-    any-firsts_onto same tells test (with_first same seen x) xs
-    ∙ ap (λ b. b || list_any test xs) (any-with_first same tells test seen x)
-    ∙ or_assoc (list_any test seen) (test x) (list_any test xs)
+use Rattle.scope_core.proofs.MemberLaws.{numbers, any-at, any-with_first, any-firsts_onto, turned, crossed}
 
 -- the names of one more
-text-both : (one other : List ℕ) → same_text one other ≡ same_text other one
-text-both one other = by (same_text one other) refl
-  where
-    turned : (one other : List ℕ) → same_text one other ≡ true → same_text other one ≡ true
-    turned one other h =
-        subst (λ text. same_text text one ≡ true) (same_text-tells.only one other h) (same_text-tells.itself one)
-
-    by : (b : Bool) → same_text one other ≡ b → b ≡ same_text other one
-    by true h = sym (turned one other h)
-    by false h = sym (false_from_ne_true (same_text other one) (λ same. false≢true (sym h ∙ turned other one same)))
-
 pub listed-more : (keys now : List (List ℕ)) (name : Ident) (entity : Entity)
     → now ≡ with_first same_text keys name.text
     → is_listed now entity ≡ (is_listed keys entity || names_it name entity)
@@ -89,13 +40,7 @@ listed-more keys now name entity is =
         ≡ (list_any (same_text text) keys || same_text name.text text)
     one text =
         any-with_first same_text same_text-tells (same_text text) keys name.text
-        ∙ ap (λ b. list_any (same_text text) keys || b) (text-both text name.text)
-
-    crossed : (a b c d : Bool) → ((a || b) || (c || d)) ≡ ((a || c) || (b || d))
-    crossed true b c d = refl
-    crossed false true true d = refl
-    crossed false true false d = refl
-    crossed false false c d = refl
+        ∙ ap (λ b. list_any (same_text text) keys || b) (turned same_text same_text-tells text name.text)
 
 -- one name after others
 pub grows-name : (old now new : Reach) (names : List Ident) (i : ℕ) (name : Ident) (used : Bool)
@@ -184,9 +129,9 @@ from-same m bringings bringing same =
     filter-append (λ (b : Bringing). b.from == m) bringings (bringing ∷ [])
     ∙ ap (λ b. from_module m bringings ++ (if b then bringing ∷ [] else [])) (eq-eqb bringing.from m same)
 
-module-at : (own : ℕ) (keys : List ℕ) (bringings : List Bringing) (all : List Reach) (k : ℕ) (reach : Reach)
+reached-at : (own : ℕ) (keys : List ℕ) (bringings : List Bringing) (all : List Reach) (k : ℕ) (reach : Reach)
     → AreTold own keys bringings all → slice_get all k ≡ Some reach → slice_get keys k ≡ Some reach.module
-module-at own keys bringings all k reach told at =
+reached-at own keys bringings all k reach told at =
     ap (λ l. slice_get l k) (sym told.modules_are)
     ∙ slice_get-map (λ (reach : Reach). reach.module) all k
     ∙ ap (option_map (λ (reach : Reach). reach.module)) at
@@ -201,8 +146,8 @@ takes-none keys bringing all none = record {
     tells = λ k reach at.
         subst (λ l. Tells l reach)
         (sym (from-other reach.module before bringing (λ same.
-        false≢true (sym none ∙ any-member (λ m. bringing.from == m) keys k reach.module
-        (module-at own keys before all k reach told at) (eq-eqb bringing.from reach.module same)))))
+        false≢true (sym none ∙ any-at (λ m. bringing.from == m) keys k reach.module
+        (reached-at own keys before all k reach told at) (eq-eqb bringing.from reach.module same)))))
         (told.tells k reach at);
   };
 }
@@ -229,7 +174,7 @@ pub takes-one : (keys : List ℕ) (bringing : Bringing) (all : List Reach) (p : 
 takes-one keys bringing all p old new key_at at grows = record {
   told = λ own before apart told.
       let of : bringing.from ≡ old.module =
-      same_Some bringing.from old.module (sym key_at ∙ module-at own keys before all p old told at) in
+      same_Some bringing.from old.module (sym key_at ∙ reached-at own keys before all p old told at) in
       record {
         modules_are =
             map-set (λ (reach : Reach). reach.module) all p new
@@ -251,7 +196,7 @@ takes-one keys bringing all p old new key_at at grows = record {
             subst (λ l. Tells l reach)
             (sym (from-other reach.module before bringing (λ same.
             other (slice_get-once ◌==◌ numbers keys bringing.from k p apart
-            (module-at own keys before all k reach told there ∙ ap Some (sym same)) key_at))))
+            (reached-at own keys before all k reach told there ∙ ap Some (sym same)) key_at))))
             (told.tells k reach there));
       };
 }
@@ -333,7 +278,7 @@ ascends-onto seen (x ∷ ms) ascend rises below =
       where
         by : (x ≡ m) ⊎ (x ≡ m → ⊥) → m ≤ x → m < x
         by (inl e) up =
-            absurd (false≢true (sym new ∙ any-member (λ n. x == n) seen j m at (eq-eqb x m e)))
+            absurd (false≢true (sym new ∙ any-at (λ n. x == n) seen j m at (eq-eqb x m e)))
         by (inr apart) up = omega (arith, up, apart)
 
 -- a test that each member passes
@@ -359,7 +304,7 @@ are-reaches own bringings modules keys start all sorted same keys_are begun take
       (or_left (own == own) (list_any (λ m. m == own) (froms bringings)) (eq-eqb own own refl));
   all = all-from (λ (bringing : Bringing). list_any (λ m. m == bringing.from) (modules_of all)) bringings
       (λ k bringing at. seen (λ m. m == bringing.from)
-      (any-member (λ m. m == bringing.from) (own ∷ froms bringings) (suc k) bringing.from
+      (any-at (λ m. m == bringing.from) (own ∷ froms bringings) (suc k) bringing.from
       (slice_get-map (λ (bringing : Bringing). bringing.from) bringings k
       ∙ ap (option_map (λ (bringing : Bringing). bringing.from)) at)
       (eq-eqb bringing.from bringing.from refl)));

@@ -1,9 +1,7 @@
 -- Laws of the pieces of all modules, and of their tables.
-use Rattle.std.proofs.Common.{◌≡◌, ◌++◌, ◌∷◌, [], ◌<◌, ◌∙◌, ◌+◌, ℕ, suc, List, map, drop, get_or, length, sym}
-use Rattle.std.proofs.Common.{ap, subst, refl, arith}
-use Rattle.std.proofs.Common.{drop-cons, take-suc, take, ◌≤◌, zero, flat_map, replicate, Bool, true, false, not}
-use Rattle.std.proofs.Common.{◌&&◌, ◌==◌}
-use Rattle.std.proofs.Common.{slice_index_or}
+use Rattle.std.proofs.Common.{◌≡◌, ◌++◌, ◌∷◌, [], ◌<◌, ◌∙◌, ◌+◌, ℕ, suc, List, map, drop, get_or, length, sym, ap}
+use Rattle.std.proofs.Common.{subst, refl, arith, drop-cons, ◌≤◌, zero, flat_map, replicate, Bool, true, false, not}
+use Rattle.std.proofs.Common.{◌&&◌, ◌==◌, slice_index_or}
 use Rattle.std.specs.List.{list_any, list_all}
 use Rattle.std.proofs.lemmas.Bool.{and_parts, eq-eqb}
 use Rattle.std.proofs.lemmas.List.{append-nil, append_assoc, length-replicate, length-map}
@@ -24,6 +22,7 @@ use Rattle.scope_core.specs.inside.Reaching.{AreReaches}
 use Rattle.scope_core.specs.inside.Pieces.{IsPiece, IsWritten}
 use Rattle.scope_core.specs.inside.Scoping.{ArePieces, PiecesLeft, BroughtLeft, brought_all, AreWritten, AreInside}
 use Rattle.scope_core.specs.inside.Scoping.{AreMade, MadeSome, Makes}
+use Rattle.scope_core.proofs.MemberLaws.{both-all}
 
 -- one more piece
 pub pieces_push : (all : List (List Declared)) (pieces : List Piece) (one : List Declared) (piece : Piece)
@@ -127,12 +126,6 @@ brought_end known names modules done i left long =
     sym (append-nil done)
     ∙ sym (ap (λ l. done ++ brought_all known (drop i names) l) (drop-end i modules long)) ∙ left.whole
 
-pub take-next : {A : Type 0} (all : List A) (i : ℕ) (one : A) → i < length all → one ≡ get_or all i one
-    → take (i + 1) all ≡ take i all ++ one ∷ []
-take-next all i one within is =
-    let e : i + 1 ≡ suc i = omega arith in
-    ap (λ n. take n all) e ∙ take-suc all i one within ∙ ap (λ v. take i all ++ v ∷ []) (sym is)
-
 -- one more table
 tables_push : (world : World) (m : ℕ) (tables : List Table) (table : Table) (pieces : List (List Declared))
     (piece : List Declared) → AreTables world m tables pieces → IsTable world (m + length tables) piece table
@@ -176,8 +169,8 @@ pub made_next : (world : World) (all : List (List Declared)) (piece : Piece) (re
     → AreReaches (length tables) (brought_at world (length tables)) reaches → table.own ≡ piece.entities.items
     → table.reaches.items ≡ reaches → table.hidden.items ≡ replicate (length piece.entities.items) false
     → MadeSome world all rest (tables ++ table ∷ []) (written ++ piece.written ∷ [])
-made_next world all piece rest table tables written reaches done [] made are count inside whole reach own reach_is flags =
-    absurd are
+made_next world all piece rest table tables written reaches done
+    [] made are count inside whole reach own reach_is flags = absurd are
 made_next world all piece rest table tables written reaches done
     (one ∷ left) made are count inside whole reach own reach_is flags = record {
       done = done ++ one ∷ [];
@@ -230,16 +223,17 @@ pub makes_more : (brings : List (List Bringing)) (pieces rest : List Piece) (pie
     → AreReaches (length tables) (slice_index_or brings (length tables) []) reaches → table.own ≡ piece.entities.items
     → table.reaches.items ≡ reaches → table.hidden.items ≡ replicate (length piece.entities.items) false
     → after ≡ tables ++ table ∷ [] → later ≡ written ++ piece.written ∷ [] → Makes brings pieces rest after later
-makes_more brings pieces rest piece table tables after written later reaches makes reach own reach_is flags come told = record {
-  some = λ world all brought are inside.
-      let got = makes.some world all brought are inside in
-      subst (λ l. MadeSome world all rest l later) (sym come)
-      (subst (λ l. MadeSome world all rest (tables ++ table ∷ []) l) (sym told)
-      (made_next world all piece rest table tables written reaches got.done got.left got.made got.are got.count
-      got.inside got.whole
-      (subst (λ b. AreReaches (length tables) (slice_index_or b (length tables) []) reaches) (sym brought) reach) own
-      reach_is flags));
-}
+makes_more brings pieces rest piece table tables after written later reaches
+    makes reach own reach_is flags come told = record {
+      some = λ world all brought are inside.
+          let got = makes.some world all brought are inside in
+          subst (λ l. MadeSome world all rest l later) (sym come)
+          (subst (λ l. MadeSome world all rest (tables ++ table ∷ []) l) (sym told)
+          (made_next world all piece rest table tables written reaches got.done got.left got.made got.are got.count
+          got.inside got.whole
+          (subst (λ b. AreReaches (length tables) (slice_index_or b (length tables) []) reaches) (sym brought) reach) own
+          reach_is flags));
+    }
 
 made_all : (world : World) (all done left : List (List Declared)) (tables : List Table) (written : List Written)
     → AreMade world done tables written → ArePieces left [] → done ++ left ≡ all → AreMade world all tables written
@@ -257,13 +251,6 @@ makes_end brings pieces tables written world all makes brought are inside =
 -- each entity of a piece is of its module
 abbrev is_of : ℕ → Declared → Bool
 is_of m one = one.entity.id.module == m
-
-all-both : (m : ℕ) (one other : List Declared) → list_all (is_of m) one ≡ true → list_all (is_of m) other ≡ true
-    → list_all (is_of m) (one ++ other) ≡ true
-all-both m [] other first second = second
-all-both m (d ∷ one) other first second =
-    let apart = and_parts (is_of m d) (list_all (is_of m) one) first in
-    ap (λ b. b && list_all (is_of m) (one ++ other)) apart.0 ∙ all-both m one other apart.1 second
 
 one-of : (m : ℕ) → ((m == m) && true) ≡ true
 one-of m = ap (λ b. b && true) (eq-eqb m m refl)
@@ -288,7 +275,7 @@ declared-inside m d (annotation exported name parameters a b) = one-of m
 declared_from-inside : (m d : ℕ) (all : List Declaration) → list_all (is_of m) (declared_from m d all) ≡ true
 declared_from-inside m d [] = refl
 declared_from-inside m d (one ∷ others) =
-    all-both m (declared m d one) (declared_from m (suc d) others) (declared-inside m d one)
+    both-all (is_of m) (declared m d one) (declared_from m (suc d) others) (declared-inside m d one)
     (declared_from-inside m (suc d) others)
 
 prelude-inside : (m : ℕ) → list_all (is_of m) (prelude m) ≡ true

@@ -8,6 +8,7 @@ use Rattle.scope_core.specs.Types.{is_deferred, has_deferred}
 
 -- sizes are deferred in the program's trees where they are in those of the definitions
 pub deferred-of : (params : List Param)
-    → list_any (λ (param : Param). is_deferred param.ty.size) params ≡ has_deferred (parameter_types (map parameter_of params))
+    → list_any (λ (param : Param). is_deferred param.ty.size) params
+    ≡ has_deferred (parameter_types (map parameter_of params))
 deferred-of [] = refl
 deferred-of (param ∷ params) = ap (λ b. is_deferred param.ty.size || b) (deferred-of params)

@@ -1,5 +1,5 @@
 -- A type is found or not whether or not prototypes are hidden that stand beside their definitions.
-use Rattle.std.proofs.Common.{◌≡◌, ◌∙◌, ◌∷◌, ◌&&◌, ◌||◌, not, [], Bool, true, false, List, Some, None, filter}
+use Rattle.std.proofs.Common.{◌≡◌, ◌∙◌, ◌∷◌, ◌&&◌, not, [], Bool, true, false, List, Some, None, filter}
 use Rattle.std.proofs.Common.{refl, sym, ap}
 use Rattle.std.specs.Prelude.{if◌then◌else◌}
 use Rattle.std.specs.List.{list_any}
@@ -7,17 +7,7 @@ use Rattle.std.proofs.lemmas.Bool.{or_parts, cond-false, false≢true, not-true}
 use Rattle.std.proofs.Math.Bool.{or-false}
 use Rattle.scope_core.specs.Entities.{Declared}
 use Rattle.scope_core.specs.Types.{is_type, single_type}
-
-any-filtered : (keep test : Declared → Bool) (all : List Declared)
-    → list_any test (filter keep all) ≡ list_any (λ one. keep one && test one) all
-any-filtered keep test [] = refl
-any-filtered keep test (one ∷ all) = by (keep one) (any-filtered keep test all)
-  where
-    by : (b : Bool) → list_any test (filter keep all) ≡ list_any (λ one. keep one && test one) all
-        → list_any test (if b then one ∷ filter keep all else filter keep all)
-        ≡ ((b && test one) || list_any (λ one. keep one && test one) all)
-    by true later = ap (λ b. test one || b) later
-    by false later = later
+use Rattle.scope_core.proofs.MemberLaws.{any-filtered}
 
 -- where something is no type, no single type is found
 no-type : (all : List Declared) → list_any (λ (one : Declared). not (is_type one.entity.sort)) all ≡ true

@@ -1,26 +1,24 @@
 -- Laws of entities that stand behind others with which they may not stand together.
 use Rattle.std.proofs.Common.{◌≡◌, ◌∙◌, ◌++◌, ◌∷◌, ◌+◌, ◌<◌, ◌≤◌, ◌==◌, ◌&&◌, ◌||◌, not, [], ℕ, zero, suc, Bool}
-use Rattle.std.proofs.Common.{true, false, List}
-use Rattle.std.proofs.Common.{Option, Some, None, map, filter, length, slice_get, slice_set, get_or, take}
-use Rattle.std.proofs.Common.{option_map, cond, refl, sym, ap, subst, arith}
+use Rattle.std.proofs.Common.{true, false, List, Option, Some, None, map, filter, length, slice_get, slice_set}
+use Rattle.std.proofs.Common.{take, option_map, refl, sym, ap, subst, arith}
 use Rattle.std.specs.Prelude.{if◌then◌else◌, slice_index_or}
 use Rattle.std.specs.Bool.{beq}
-use Rattle.std.specs.List.{list_any, list_all, position_or_len}
+use Rattle.std.specs.List.{list_any, list_all}
 use Rattle.std.specs.Str.{bytes_eq}
 use Rattle.std.specs.Cmp.Lexicographic.{pointwise}
-use Rattle.std.proofs.Math.Bool.{or-false}
+use Rattle.std.proofs.Math.Bool.{or-false, or-true, and-false, not-not}
 use Rattle.std.proofs.lemmas.Bool.{false≢true, cond-true, cond-false, cond_both, and_parts, eqb-true, eqb-false}
 use Rattle.std.proofs.lemmas.Bool.{eq-eqb, ne_eqb}
 use Rattle.std.proofs.lemmas.List.{map-append, append-nil, take_all, append_assoc, length-map, get_or-set_same}
 use Rattle.std.proofs.lemmas.List.{get_or-set_other}
 use Rattle.std.proofs.lemmas.List.Elements.{filter-append}
 use Rattle.std.proofs.lemmas.List.Folds.{list_any-append}
-use Rattle.std.proofs.lemmas.List.Sums.{passes_at_first}
 use Rattle.std.proofs.lemmas.Option.{same_Some, none-some, slice_get-map, slice_get_within, get_or_from_slice_get}
 use Rattle.type_rules.specs.declared.ty.Ty.{Ty}
 use Rattle.type_rules.specs.Same.{same_type}
-use Rattle.case_table.specs.Lists.{Tells, with_first, firsts}
-use Rattle.case_table.specs.ListLaws.{length-firsts_onto-le, list_any-slice_get}
+use Rattle.case_table.specs.Lists.{Tells, with_first}
+use Rattle.case_table.specs.ListLaws.{list_any-slice_get}
 use Rattle.scope_core.specs.declared.entity.Entity.{Entity}
 use Rattle.scope_core.specs.declared.entity.Sort.{Sort}
 use Rattle.scope_core.specs.declared.entity.Sort.TheVariants as sort
@@ -43,8 +41,11 @@ use Rattle.scope_core.specs.inside.Rounds.{AreSettled, last_types, declared_at, 
 use Rattle.scope_core.specs.inside.Settling.{taken_at}
 use Rattle.scope_core.proofs.KindLaws.{names_of, kinds-push}
 use Rattle.scope_core.proofs.ListedLaws.{least_onto-append}
-use Rattle.scope_core.proofs.OwnLaws.{same_text-tells, any-onto}
 use Rattle.scope_core.proofs.SameLaws.{types-decide}
+use Rattle.scope_core.proofs.MemberLaws.{crossed, any-filtered, all-at, take-next, there-is}
+use Rattle.scope_core.proofs.OwnLaws.{same_text-tells, number-within, same-number}
+use Rattle.scope_core.proofs.VisibleLaws.{tables-long}
+use Rattle.scope_core.proofs.FoundIsLaws.{table-at}
 
 -- the program's own test for a prototype
 pub prototype-is : (of : Sort) → (sorts.ghosts).eq of sort.Intrinsic ≡ is_prototype of
@@ -71,29 +72,12 @@ any-or : (p q : Declared → Bool) (all : List Declared)
     → list_any (λ one. p one || q one) all ≡ (list_any p all || list_any q all)
 any-or p q [] = refl
 any-or p q (one ∷ all) =
-    ap (λ b. (p one || q one) || b) (any-or p q all) ∙ swap (p one) (q one) (list_any p all) (list_any q all)
-  where
-    swap : (a b c d : Bool) → ((a || b) || (c || d)) ≡ ((a || c) || (b || d))
-    swap true b c d = refl
-    swap false true true d = refl
-    swap false true false d = refl
-    swap false false c d = refl
+    ap (λ b. (p one || q one) || b) (any-or p q all) ∙ crossed (p one) (q one) (list_any p all) (list_any q all)
 
 any-same : (p q : Declared → Bool) (all : List Declared) → ((one : Declared) → p one ≡ q one)
     → list_any p all ≡ list_any q all
 any-same p q [] same = refl
 any-same p q (one ∷ all) same = λ k. same one k || any-same p q all same k
-
-any-filtered : (keep test : Declared → Bool) (all : List Declared)
-    → list_any (λ one. keep one && test one) all ≡ list_any test (filter keep all)
-any-filtered keep test [] = refl
-any-filtered keep test (one ∷ all) = by (keep one) (any-filtered keep test all)
-  where
-    by : (b : Bool) → list_any (λ one. keep one && test one) all ≡ list_any test (filter keep all)
-        → ((b && test one) || list_any (λ one. keep one && test one) all)
-        ≡ list_any test (if b then one ∷ filter keep all else filter keep all)
-    by true later = ap (λ b. test one || b) later
-    by false later = later
 
 -- beside a function
 with-function : (f a same q : Bool)
@@ -138,14 +122,6 @@ some-else test pick base step [] = sym base
 some-else test pick base step (one ∷ all) =
     ap (λ b. not (test one.entity.sort) || b) (some-else test pick base step all)
     ∙ sym (step one.entity.sort (kinds_among (names_of all)))
-
-pub or-true : (b : Bool) → (b || true) ≡ true
-or-true true = refl
-or-true false = refl
-
-pub and-false : (b : Bool) → (b && false) ≡ false
-and-false true = refl
-and-false false = refl
 
 some-other : (f a : Bool) → not (not f && (not a && false)) ≡ true
 some-other true a = refl
@@ -197,10 +173,6 @@ apart-annotation false false false = refl
 apart-other : (f a o : Bool) → not (not (o || true) && not ((f || false) && (a || false))) ≡ true
 apart-other f a true = refl
 apart-other f a false = refl
-
-pub not-not : (b : Bool) → not (not b) ≡ b
-not-not true = refl
-not-not false = refl
 
 -- some sort is among those of a list that has a member
 pub some-sort : (sort : Sort) (rest : Kinds) → not (has_none (both (kinds_of sort) rest)) ≡ true
@@ -289,57 +261,6 @@ some-conflict types own mine (first ∷ all) =
     by sort.Struct = other sort.Struct refl refl
     by sort.Enum = other sort.Enum refl refl
     by sort.EnumValue = other sort.EnumValue refl refl
-
--- the number of a name that an entity has
-abbrev all_names : List Entity → List (List ℕ)
-all_names entities = firsts same_text (names_in entities)
-
-first-within : {X : Type 0} (test : X → Bool) (xs : List X) → list_any test xs ≡ true
-    → position_or_len test xs < length xs
-first-within test [] some = absurd (false≢true some)
-first-within test (x ∷ xs) some = by (test x) some (first-within test xs)
-  where
-    by : (b : Bool) → (b || list_any test xs) ≡ true → (list_any test xs ≡ true → position_or_len test xs < length xs)
-        → cond (not b) (1 + position_or_len test xs) 0 < suc (length xs)
-    by true some later = omega arith
-    by false some later = omega (arith, later some)
-
-among-names : (entities : List Entity) (name : List ℕ) → list_any (same_text name) (names_in entities) ≡ true
-    → list_any (same_text name) (all_names entities) ≡ true
-among-names entities name known = any-onto name [] (names_in entities) ∙ known
-
-pub number-within : (entities : List Entity) (name : List ℕ) → list_any (same_text name) (names_in entities) ≡ true
-    → number_in entities name < length entities
-number-within entities name known =
-    let less = first-within (same_text name) (all_names entities) (among-names entities name known) in
-    let most = length-firsts_onto-le same_text [] (names_in entities) in
-    let long = length-map entities (λ (entity : Entity). entity.name) in
-    omega (arith, less, most, long)
-
-name-at : (entities : List Entity) (name : List ℕ) → list_any (same_text name) (names_in entities) ≡ true
-    → name ≡ get_or (all_names entities) (number_in entities name) []
-name-at entities name known =
-    same_text-tells.only name (get_or (all_names entities) (number_in entities name) [])
-    (passes_at_first (same_text name) (all_names entities) []
-    (first-within (same_text name) (all_names entities) (among-names entities name known)))
-
-pub same-number : (entities : List Entity) (one other : List ℕ)
-    → list_any (same_text one) (names_in entities) ≡ true → list_any (same_text other) (names_in entities) ≡ true
-    → (number_in entities one == number_in entities other) ≡ same_text other one
-same-number entities one other known there = by (same_text other one) refl
-  where
-    by : (b : Bool) → same_text other one ≡ b → (number_in entities one == number_in entities other)
-        ≡ same_text other one
-    by true same =
-        eq-eqb (number_in entities one) (number_in entities other)
-        (ap (number_in entities) (sym (same_text-tells.only other one same)))
-        ∙ sym same
-    by false apart =
-        ne_eqb (number_in entities one) (number_in entities other)
-        (λ e. false≢true (sym apart ∙ ap (same_text other)
-        (name-at entities one known ∙ ap (λ n. get_or (all_names entities) n []) e ∙ sym (name-at entities other there))
-        ∙ same_text-tells.itself other))
-        ∙ sym apart
 
 same_mark-tells : Tells same_mark
 same_mark-tells = record {
@@ -570,25 +491,18 @@ noted-push types entities keys m taken start least after before one kinds now se
         (λ k. is_twice (noted.kinds_are one.entity.name known k)
         (both (noted.kinds_are one.entity.name known k) (kinds_of one.entity.sort))
         (not ((noted.seen_are one taken known at
-        ∙ any-filtered (of_text one.entity.name) (alike types one) before) k)))
+        ∙ sym (any-filtered (of_text one.entity.name) (alike types one) before)) k)))
         ∙ sym (some-conflict types (types one) one.entity.sort (filter (of_text one.entity.name) before))
-        ∙ sym (any-filtered (of_text one.entity.name) (conflicts types (types one) one.entity.sort) before)
+        ∙ any-filtered (of_text one.entity.name) (conflicts types (types one) one.entity.sort) before
         ∙ sym (any-shared types m one before inside own)
 
 -- the table of a piece
 pub piece-at : (world : World) (k : ℕ) (tables : List Table) (pieces : List (List Declared)) (m : ℕ) (table : Table)
     (piece : List Declared) → AreTables world k tables pieces → slice_get tables m ≡ Some table
     → slice_get pieces m ≡ Some piece → IsTable world (k + m) piece table
-piece-at world k [] pieces m table piece are at there = absurd (none-some table at)
-piece-at world k (t ∷ ts) [] m table piece are at there = absurd are
-piece-at world k (t ∷ ts) (p ∷ ps) zero table piece are at there =
-    let e : k ≡ k + 0 = omega arith in
-    subst (λ n. IsTable world n piece table) e
-    (subst (λ q. IsTable world k q table) (same_Some p piece there)
-    (subst (IsTable world k p) (same_Some t table at) are.0))
-piece-at world k (t ∷ ts) (p ∷ ps) (suc m) table piece are at there =
-    let e : suc k + m ≡ k + suc m = omega arith in
-    subst (λ n. IsTable world n piece table) e (piece-at world (suc k) ts ps m table piece are.1 at there)
+piece-at world k tables pieces m table piece are at there =
+    let found = table-at world k tables pieces m table are at in
+    subst (λ p. IsTable world (k + m) p table) (same_Some found.0 piece (sym found.1 ∙ there)) found.2
 
 pub own-table : (world : World) (settled : Settled) (pieces : List (List Declared)) (m : ℕ) (table : Table)
     (own : List Declared) → AreSettled world pieces settled → slice_get settled.tables.items m ≡ Some table
@@ -605,31 +519,6 @@ all-taken test (suc i) [] every = refl
 all-taken test (suc i) (one ∷ all) every =
     let parts = and_parts (test one) (list_all test all) every in
     λ k. parts.0 k && all-taken test i all parts.1 k
-
-all-at : (test : Declared → Bool) (i : ℕ) (all : List Declared) (one : Declared) → list_all test all ≡ true
-    → slice_get all i ≡ Some one → test one ≡ true
-all-at test i [] one every at = absurd (none-some one at)
-all-at test zero (first ∷ all) one every at =
-    ap test (sym (same_Some first one at)) ∙ (and_parts (test first) (list_all test all) every).0
-all-at test (suc i) (first ∷ all) one every at =
-    all-at test i all one (and_parts (test first) (list_all test all) every).1 at
-
-take-suc-next : (all : List Declared) (i : ℕ) (one : Declared) → slice_get all i ≡ Some one
-    → take (suc i) all ≡ take i all ++ one ∷ []
-take-suc-next [] i one at = absurd (none-some one at)
-take-suc-next (first ∷ all) zero one at = ap (λ d. d ∷ []) (same_Some first one at)
-take-suc-next (first ∷ all) (suc i) one at = ap (λ l. first ∷ l) (take-suc-next all i one at)
-
-take-next : (all : List Declared) (i : ℕ) (one : Declared) → slice_get all i ≡ Some one
-    → take (i + 1) all ≡ take i all ++ one ∷ []
-take-next all i one at =
-    let e : i + 1 ≡ suc i = omega arith in
-    ap (λ n. take n all) e ∙ take-suc-next all i one at
-
-there-is : {A : Type 0} (xs : List A) (i : ℕ) → i < length xs → (x : A) × (slice_get xs i ≡ Some x)
-there-is [] i within = absurd (omega (arith, within))
-there-is (x ∷ xs) zero within = (x, refl)
-there-is (x ∷ xs) (suc i) within = there-is xs i (omega (arith, within))
 
 own-there : (world : World) (settled : Settled) (pieces : List (List Declared)) (m i : ℕ) (table : Table)
     (own : List Declared) → AreSettled world pieces settled → slice_get settled.tables.items m ≡ Some table
@@ -686,7 +575,8 @@ pub noted-step : (world : World) (settled : Settled) (pieces : List (List Declar
 noted-step world settled pieces m i taken at table own places entity start least after kinds now seen marks
     are table_at there are_places within place_is entity_is taken_is noted notes =
     subst (λ l. AreNoted (last_types world pieces) table.own settled.lists.keys start l after now marks)
-    (sym (take-next own i one.0 one.1))
+    (sym (take-next own i one.0 (slice_get_within own i one.0 one.1)
+    (sym (get_or_from_slice_get own i one.0 one.0 one.1))))
     (noted-push (last_types world pieces) table.own settled.lists.keys m taken start least after (take i own) one.0
     kinds now seen marks noted
     (list_any-slice_get same_text same_text-tells (names_in table.own) one.0.entity.name i
@@ -695,7 +585,7 @@ noted-step world settled pieces m i taken at table own places entity start least
     (ap (slice_get settled.lists.keys) (same_Some taken is.0 (sym taken_is ∙ is.1)) ∙ is.2)
     (lists-apart settled.lists.keys are.apart)
     (all-taken (λ (one : Declared). one.entity.id.module == m) i own inside)
-    (all-at (λ (one : Declared). one.entity.id.module == m) i own one.0 inside one.1)
+    (all-at (λ (one : Declared). one.entity.id.module == m) own i one.0 inside one.1)
     (subst (λ (e : Entity). NotesDeclared (number_in table.own e.name) taken e.sort
     (twice m one.0.at) least kinds seen after now marks)
     same_entity
@@ -742,17 +632,10 @@ noted-all world settled pieces m i table own start least kinds seen are at there
     ∙ ap (λ l. least_onto start (twice_among (last_types world pieces) [] l))
     (take_all i own (omega (arith, past, same, long)))
 
-same-count : (world : World) (k : ℕ) (tables : List Table) (pieces : List (List Declared))
-    → AreTables world k tables pieces → length tables ≡ length pieces
-same-count world k [] [] are = refl
-same-count world k [] (piece ∷ pieces) are = absurd are
-same-count world k (table ∷ tables) [] are = absurd are
-same-count world k (table ∷ tables) (piece ∷ pieces) are = ap suc (same-count world (suc k) tables pieces are.1)
-
 -- each piece has a table
 pub table-there : (world : World) (settled : Settled) (pieces : List (List Declared)) (m : ℕ) (own : List Declared)
     → AreSettled world pieces settled → slice_get pieces m ≡ Some own → length settled.tables.items ≤ m → ⊥
 table-there world settled pieces m own are there past =
-    let same = same-count world 0 settled.tables.items pieces are.hold.are in
+    let same = tables-long world 0 settled.tables.items pieces are.hold.are in
     let within = slice_get_within pieces m own there in
     omega (arith, same, within, past)

@@ -1,11 +1,10 @@
 -- The sorts of what stands under a name in the tables are those of what stands under it among the entities.
 use Rattle.std.proofs.Common.{◌≡◌, ◌∙◌, ◌++◌, ◌∷◌, ◌+◌, ◌<◌, ◌==◌, ◌&&◌, ◌||◌, not, [], ℕ, zero, suc, Bool, true}
-use Rattle.std.proofs.Common.{false, List}
-use Rattle.std.proofs.Common.{Some, filter, slice_get, refl, sym, ap, arith}
+use Rattle.std.proofs.Common.{false, List, Some, filter, slice_get, refl, sym, ap, arith}
 use Rattle.std.specs.Prelude.{if◌then◌else◌}
 use Rattle.std.specs.List.{list_all}
 use Rattle.std.specs.Str.{bytes_eq}
-use Rattle.std.proofs.Math.Bool.{or-false, or_assoc}
+use Rattle.std.proofs.Math.Bool.{or-false, or_assoc, not-not}
 use Rattle.std.proofs.lemmas.Bool.{and_parts, eqb-true, ne_eqb}
 use Rattle.std.proofs.lemmas.List.{map-append}
 use Rattle.std.proofs.lemmas.List.Elements.{filter-append}
@@ -105,10 +104,6 @@ under-from table keep name exported i (one ∷ rest) own hides =
 
     hidden_is : not (is_hidden table i) ≡ keep one
     hidden_is = ap (λ n. not (is_hidden table n)) start ∙ ap not (hides 0 one refl) ∙ not-not (keep one)
-      where
-        not-not : (b : Bool) → not (not b) ≡ b
-        not-not true = refl
-        not-not false = refl
 
     here : kinds_there table exported i
         ≡ (if keep one && (not exported || one.entity.exported) then kinds_of one.entity.sort else no_kinds)

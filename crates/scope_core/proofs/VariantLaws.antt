@@ -17,7 +17,7 @@ use Rattle.scope_core.specs.Entities.{values_from, declared, declared_from, enti
 use Rattle.scope_core.specs.PreludeEntities.{prelude}
 use Rattle.scope_core.specs.Standing.{is_prototype, pieces_of}
 use Rattle.scope_core.specs.inside.Rounds.{declared_in, declared_at, is_based}
-use Rattle.scope_core.proofs.VisibleLaws.{all-at}
+use Rattle.scope_core.proofs.MemberLaws.{all-at}
 
 abbrev is_either : Declared → Bool
 is_either one = not (is_prototype one.entity.sort && is_based one.takes)
@@ -44,19 +44,19 @@ declaration-is m d (structure exported name annotations fields span) = refl
 declaration-is m d (enumeration exported name annotations values span) = values-are m d 1 exported name.text values
 declaration-is m d (annotation exported name parameters annotations span) = refl
 
-declarations-are : (m d : ℕ) (all : List Declaration) → list_all is_either (declared_from m d all) ≡ true
-declarations-are m d [] = refl
-declarations-are m d (one ∷ all) =
+declared-either : (m d : ℕ) (all : List Declaration) → list_all is_either (declared_from m d all) ≡ true
+declared-either m d [] = refl
+declared-either m d (one ∷ all) =
     list_all-append is_either (declared m d one) (declared_from m (suc d) all)
-    ∙ (λ i. declaration-is m d one i && declarations-are m (suc d) all i)
+    ∙ (λ i. declaration-is m d one i && declared-either m (suc d) all i)
 
-pieces-are : (count m : ℕ) (all : List (List Declaration)) (n i : ℕ) (one : Declared)
+each-either : (count m : ℕ) (all : List (List Declaration)) (n i : ℕ) (one : Declared)
     → declared_in (slice_get (entities_from m all ++ prelude count ∷ []) n) i ≡ Some one → is_either one ≡ true
-pieces-are count m [] zero i one at = all-at is_either (prelude count) i one refl at
-pieces-are count m [] (suc n) i one at = absurd (none-some one at)
-pieces-are count m (own ∷ all) zero i one at =
-    all-at is_either (declared_from m 0 own) i one (declarations-are m 0 own) at
-pieces-are count m (own ∷ all) (suc n) i one at = pieces-are count (suc m) all n i one at
+each-either count m [] zero i one at = all-at is_either (prelude count) i one refl at
+each-either count m [] (suc n) i one at = absurd (none-some one at)
+each-either count m (own ∷ all) zero i one at =
+    all-at is_either (declared_from m 0 own) i one (declared-either m 0 own) at
+each-either count m (own ∷ all) (suc n) i one at = each-either count (suc m) all n i one at
 
 -- for `Describes` of the entities of a set
 pub prototypes-are : (members : List Member) (place : Place) (one : Declared)
@@ -65,5 +65,5 @@ pub prototypes-are : (members : List Member) (place : Place) (one : Declared)
 prototypes-are members place one at is =
     (λ i. sym is i && is_based one.takes)
     ∙ not-true (is_prototype one.entity.sort && is_based one.takes)
-    (pieces-are (length members) 0 (map (λ (member : Member). member.tree.declarations) members)
+    (each-either (length members) 0 (map (λ (member : Member). member.tree.declarations) members)
     place.«module» place.index one at)

@@ -1,16 +1,15 @@
 -- What a name finds while a module is settled, and what it finds in a round.
-use Rattle.std.proofs.Common.{◌≡◌, ◌∙◌, ◌+◌, ◌<◌, ◌≤◌, ◌++◌, ◌∷◌, ◌==◌, ◌&&◌, ◌||◌, not, [], ℕ, suc, zero}
-use Rattle.std.proofs.Common.{Bool, true}
-use Rattle.std.proofs.Common.{false, List, Option, Some, None, refl, sym, ap, subst, slice_get}
-use Rattle.std.proofs.Common.{slice_index_or, map}
-use Rattle.std.proofs.Common.{filter, length, arith}
+use Rattle.std.proofs.Common.{◌≡◌, ◌∙◌, ◌+◌, ◌<◌, ◌≤◌, ◌++◌, ◌∷◌, ◌==◌, ◌&&◌, ◌||◌, not, [], ℕ, suc, zero, Bool}
+use Rattle.std.proofs.Common.{true, false, List, Option, Some, None, refl, sym, ap, subst, slice_get}
+use Rattle.std.proofs.Common.{slice_index_or, map, filter, length, arith}
 use Rattle.std.specs.Prelude.{if◌then◌else◌}
 use Rattle.std.specs.List.{list_any, list_all}
 use Rattle.std.specs.Str.{bytes_eq}
 use Rattle.std.specs.Cmp.Lexicographic.{pointwise, bytes_decides}
-use Rattle.std.proofs.lemmas.Bool.{and_parts, or_parts, false≢true, true≢false, eqb-true}
+use Rattle.std.proofs.lemmas.Bool.{and_parts, false≢true, true≢false, eqb-true, and_right}
 use Rattle.std.proofs.lemmas.List.Elements.{filter-append}
-use Rattle.std.proofs.lemmas.Option.{same_Some, none-some}
+use Rattle.std.proofs.lemmas.Option.{same_Some, none-some, slice_get_within, slice_get-get_or}
+use Rattle.std.proofs.Math.Bool.{not-not}
 use Rattle.type_rules.specs.declared.ty.Ty.{Ty}
 use Rattle.type_rules.specs.Same.{same_type}
 use Rattle.mdl_syntax.specs.declared.declarations.Param.{Param}
@@ -26,10 +25,9 @@ use Rattle.scope_core.specs.declared.tables.Table.{Table}
 use Rattle.scope_core.specs.declared.tables.Place.{Place}
 use Rattle.scope_core.specs.Entities.{Declared}
 use Rattle.scope_core.specs.Brought.{Bringing}
-use Rattle.scope_core.specs.Visible.{World, brought_at, name_at, brings, uses, is_within, is_near, is_far}
-use Rattle.scope_core.specs.Visible.{is_given, fits, those, found, found_parts, found_near, found_far}
-use Rattle.scope_core.specs.Visible.{or_else, texts, last_part}
-use Rattle.scope_core.specs.Visible.{front_parts, word_text}
+use Rattle.scope_core.specs.Visible.{World, brought_at, name_at, brings, uses, is_within, is_near, is_far, is_given}
+use Rattle.scope_core.specs.Visible.{fits, those, found, found_parts, found_near, found_far, or_else, texts}
+use Rattle.scope_core.specs.Visible.{last_part, front_parts, word_text}
 use Rattle.scope_core.specs.Standing.{is_prototype, is_definition, share_name, defines, stands, types_after}
 use Rattle.scope_core.specs.Standing.{standing_after}
 use Rattle.scope_core.specs.Types.{is_type, single_type, named_type, formed_type, type_of}
@@ -42,59 +40,7 @@ use Rattle.scope_core.specs.inside.Rounds.{CanSettle, FindsIn}
 use Rattle.scope_core.proofs.FoundIsLaws.{told, found-is, places-are}
 use Rattle.scope_core.proofs.StandingLaws.{single-stays}
 use Rattle.scope_core.proofs.WithinLaws.{uses-from, brings-from}
-
--- members of lists
-pub filter-of : (keep : Declared → Bool) (all : List Declared) (i : ℕ) (one : Declared)
-    → slice_get (filter keep all) i ≡ Some one → (keep one ≡ true) × (j : ℕ) × (slice_get all j ≡ Some one)
-filter-of keep [] i one at = absurd (none-some one at)
-filter-of keep (x ∷ all) i one at = by (keep x) refl i at (λ i at. filter-of keep all i one at)
-  where
-    by : (b : Bool) → keep x ≡ b → (i : ℕ)
-        → slice_get (if b then x ∷ filter keep all else filter keep all) i ≡ Some one
-        → ((i : ℕ) → slice_get (filter keep all) i ≡ Some one
-        → (keep one ≡ true) × (j : ℕ) × (slice_get all j ≡ Some one))
-        → (keep one ≡ true) × (j : ℕ) × (slice_get (x ∷ all) j ≡ Some one)
-    by true is zero at later = (ap keep (sym (same_Some x one at)) ∙ is, 0, at)
-    by true is (suc i) at later = let past = later i at in (past.0, suc past.1, past.2)
-    by false is i at later = let past = later i at in (past.0, suc past.1, past.2)
-
-pub filter-has : (keep : Declared → Bool) (all : List Declared) (j : ℕ) (one : Declared)
-    → slice_get all j ≡ Some one → keep one ≡ true → (h : ℕ) × (slice_get (filter keep all) h ≡ Some one)
-filter-has keep [] j one at is = absurd (none-some one at)
-filter-has keep (x ∷ all) zero one at is = by (keep x) (ap keep (same_Some x one at) ∙ is)
-  where
-    by : (b : Bool) → b ≡ true
-        → (h : ℕ) × (slice_get (if b then x ∷ filter keep all else filter keep all) h ≡ Some one)
-    by true is = (0, at)
-    by false is = absurd (false≢true is)
-filter-has keep (x ∷ all) (suc j) one at is = by (keep x) (filter-has keep all j one at is)
-  where
-    by : (b : Bool) → (h : ℕ) × (slice_get (filter keep all) h ≡ Some one)
-        → (h : ℕ) × (slice_get (if b then x ∷ filter keep all else filter keep all) h ≡ Some one)
-    by true later = (suc later.0, later.1)
-    by false later = later
-
-pub any-of : (test : Declared → Bool) (all : List Declared) → list_any test all ≡ true
-    → (j : ℕ) × (one : Declared) × (slice_get all j ≡ Some one) × (test one ≡ true)
-any-of test [] some = absurd (false≢true some)
-any-of test (x ∷ all) some = by (test x) refl some (λ some. any-of test all some)
-  where
-    by : (b : Bool) → test x ≡ b → (b || list_any test all) ≡ true
-        → (list_any test all ≡ true
-        → (j : ℕ) × (one : Declared) × (slice_get all j ≡ Some one) × (test one ≡ true))
-        → (j : ℕ) × (one : Declared) × (slice_get (x ∷ all) j ≡ Some one) × (test one ≡ true)
-    by true is some later = (0, x, refl, is)
-    by false is some later = let past = later some in (suc past.0, past.1, past.2, past.3)
-
-pub any-at : (test : Declared → Bool) (all : List Declared) (j : ℕ) (one : Declared) → slice_get all j ≡ Some one
-    → test one ≡ true → list_any test all ≡ true
-any-at test [] j one at is = absurd (none-some one at)
-any-at test (x ∷ all) zero one at is = ap (λ b. b || list_any test all) (ap test (same_Some x one at) ∙ is)
-any-at test (x ∷ all) (suc j) one at is = by (test x) (any-at test all j one at is)
-  where
-    by : (b : Bool) → list_any test all ≡ true → (b || list_any test all) ≡ true
-    by true later = refl
-    by false later = later
+use Rattle.scope_core.proofs.MemberLaws.{filter-of, filter-has, any-of, any-at, any-at-false, all-at, nil-cons}
 
 filter-same : (one other : Declared → Bool) (all : List Declared) → ((d : Declared) → one d ≡ other d)
     → filter one all ≡ filter other all
@@ -145,15 +91,14 @@ open-are world keep k (t ∷ ts) (p ∷ ps) are flags =
     ++ open-are world keep (suc k) ts ps are.1 (λ n i one table at there. flags (suc n) i one table at there) j)
     ∙ sym (filter-append keep p (entities_in ps))
 
-pub all-at : (test : Declared → Bool) (piece : List Declared) (i : ℕ) (one : Declared) → list_all test piece ≡ true
-    → slice_get piece i ≡ Some one → test one ≡ true
-all-at test [] i one all at = absurd (none-some one at)
-all-at test (x ∷ piece) zero one all at =
-    ap test (sym (same_Some x one at)) ∙ (and_parts (test x) (list_all test piece) all).0
-all-at test (x ∷ piece) (suc i) one all at =
-    all-at test piece i one (and_parts (test x) (list_all test piece) all).1 at
-
 -- the module of what stands at a place
+pub tables-long : (world : World) (k : ℕ) (tables : List Table) (pieces : List (List Declared))
+    → AreTables world k tables pieces → length tables ≡ length pieces
+tables-long world k [] [] are = refl
+tables-long world k [] (p ∷ pieces) are = absurd are
+tables-long world k (t ∷ tables) [] are = absurd are
+tables-long world k (t ∷ tables) (p ∷ pieces) are = ap suc (tables-long world (suc k) tables pieces are.1)
+
 pub module-at : (world : World) (k : ℕ) (ts : List Table) (ps : List (List Declared)) (n i : ℕ) (one : Declared)
     → AreTables world k ts ps → declared_in (slice_get ps n) i ≡ Some one → one.entity.id.module ≡ k + n
 module-at world k [] [] n i one are at = absurd (none-some one at)
@@ -175,22 +120,15 @@ long-at world k [] (p ∷ ps) n i one table are at there = absurd are
 long-at world k (t ∷ ts) [] n i one table are at there = absurd are
 long-at world k (t ∷ ts) (p ∷ ps) zero i one table are at there =
     let long = ap (λ (t : Table). length t.hidden.items) (sym (same_Some t table at)) ∙ are.0.hidden in
-    let within = within p i there in
+    let within = slice_get_within p i one there in
     omega (arith, long, within)
-  where
-    within : (piece : List Declared) (i : ℕ) → slice_get piece i ≡ Some one → i < length piece
-    within [] i at = absurd (none-some one at)
-    within (x ∷ piece) zero at = omega arith
-    within (x ∷ piece) (suc i) at = let later = within piece i at in omega (arith, later)
 long-at world k (t ∷ ts) (p ∷ ps) (suc n) i one table are at there =
     long-at world (suc k) ts ps n i one table are.1 at there
 
 none-at : (flags : List Bool) (i : ℕ) → list_any (λ hidden. hidden) flags ≡ false → i < length flags
     → slice_index_or flags i true ≡ false
-none-at [] i none within = absurd (omega (arith, within))
-none-at (flag ∷ flags) zero none within = (or_parts flag (list_any (λ hidden. hidden) flags) none).0
-none-at (flag ∷ flags) (suc i) none within =
-    none-at flags i (or_parts flag (list_any (λ hidden. hidden) flags) none).1 (omega (arith, within))
+none-at flags i none within =
+    any-at-false (λ hidden. hidden) flags i (slice_index_or flags i true) none (slice_get-get_or flags i true within)
 
 abbrev pub stands_in : World → List (List Declared) → ℕ → Declared → Bool
 stands_in world pieces k one = stands (types_after world (entities_in pieces) k) (entities_in pieces) one
@@ -379,7 +317,7 @@ those-finds world pieces closed m k test fresh is = record {
     passes : Declared → Bool
     passes one = test one.entity
 
-definition-stands : (of : Sort) → is_definition of ≡ true → is_prototype of ≡ false
+pub definition-stands : (of : Sort) → is_definition of ≡ true → is_prototype of ≡ false
 definition-stands sort.Function is = refl
 definition-stands sort.Intrinsic is = absurd (false≢true is)
 definition-stands sort.Material is = refl
@@ -398,7 +336,7 @@ pub beside : (types : Declared → List Ty) (all : List Declared) (one : Declare
     × (is_definition other.entity.sort ≡ true) × (share_name one other ≡ true)
 beside types all one hidden =
     let both = and_parts (is_prototype one.entity.sort) (list_any (defines types one) all)
-    (twice (is_prototype one.entity.sort && list_any (defines types one) all) hidden) in
+    (sym (not-not (is_prototype one.entity.sort && list_any (defines types one) all)) ∙ hidden) in
     let there = any-of (defines types one) all both.1 in
     let other = there.1 in
     let apart = and_parts (is_definition other.entity.sort)
@@ -410,10 +348,6 @@ beside types all one hidden =
       apart.0,
       (and_parts (share_name one other) (pointwise same_type (types one) (types other)) apart.1).0,
     )
-  where
-    twice : (b : Bool) → not (not b) ≡ true → b ≡ true
-    twice true is = refl
-    twice false is = absurd (false≢true is)
 
 -- where one is found that is left out, another is found that isn't: its definition
 pub definition-found : (world : World) (pieces : List (List Declared)) (closed : List ℕ) (m k : ℕ)
@@ -431,17 +365,10 @@ definition-found world pieces closed m k first later i one finds at out =
       other,
       has.1,
       known.4,
-      ap not (no-part (other.entity.id.module == m) (not (stands_in world pieces k other))
+      ap not (and_right (other.entity.id.module == m) (not (stands_in world pieces k other))
           (ap not (always-stands (types_after world (entities_in pieces) k) (entities_in pieces) other
           (definition-stands other.entity.sort known.4)))),
     )
-  where
-    no-part : (a b : Bool) → b ≡ false → (a && b) ≡ false
-    no-part true b none = none
-    no-part false b none = refl
-
-nil-cons : {A : Type 0} (x : A) (xs : List A) → [] ≡ x ∷ xs → ⊥
-nil-cons x xs e = let long = ap length e in omega (arith, long)
 
 -- what is found isn't all left out
 some-stays : (world : World) (pieces : List (List Declared)) (closed : List ℕ) (m k : ℕ) (first later : List Declared)

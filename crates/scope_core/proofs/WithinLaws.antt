@@ -10,6 +10,7 @@ use Rattle.scope_core.specs.Brought.{Bringing}
 use Rattle.scope_core.specs.Visible.{World, brought_at, lists, brings, uses, is_within}
 use Rattle.scope_core.specs.inside.Reaching.{has_it, brings_it, from_module, modules_of, Tells, AreReaches, Ascends}
 use Rattle.scope_core.specs.inside.Holding.{Ordered, Agree}
+use Rattle.scope_core.proofs.HoldLaws.{ordered-weaken}
 
 any-from : (m : ℕ) (one other : Bringing → Bool) (bringings : List Bringing)
     → ((bringing : Bringing) → ((bringing.from == m) && one bringing) ≡ other bringing)
@@ -77,14 +78,10 @@ ordered-kept k keep [] ordered = tt
 ordered-kept k keep (reach ∷ reaches) ordered =
     by (keep reach) (ordered-kept (suc reach.module) keep reaches ordered.1)
   where
-    weaken : (k j : ℕ) (reaches : List Reach) → k ≤ j → Ordered j reaches → Ordered k reaches
-    weaken k j [] less is = tt
-    weaken k j (one ∷ others) less is = (omega (arith, less, is.0), is.1)
-
     by : (b : Bool) → Ordered (suc reach.module) (filter keep reaches)
         → Ordered k (if b then reach ∷ filter keep reaches else filter keep reaches)
     by true later = (ordered.0, later)
-    by false later = weaken k (suc reach.module) (filter keep reaches) (omega (arith, ordered.0)) later
+    by false later = ordered-weaken k (suc reach.module) (filter keep reaches) (omega (arith, ordered.0)) later
 
 pub agree-kept : (keep : Reach → Bool) (test : Entity → Bool) (seen : Reach → Entity → Bool) (reaches : List Reach)
     → ((j : ℕ) (reach : Reach) → slice_get reaches j ≡ Some reach → keep reach ≡ true → (entity : Entity)

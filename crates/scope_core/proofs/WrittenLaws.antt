@@ -19,7 +19,8 @@ use Rattle.scope_core.specs.inside.Pieces.{takes_of}
 use Rattle.scope_core.specs.inside.Typing.{types_at}
 use Rattle.scope_core.specs.inside.Rounds.{declared_in, declared_at, entities_in, Describes}
 use Rattle.scope_core.specs.inside.Rounds.{CanSettle, IsReady, SettlesBy, SettlesWritten}
-use Rattle.scope_core.proofs.VisibleLaws.{all-at, module-at, written-types}
+use Rattle.scope_core.proofs.VisibleLaws.{module-at, written-types}
+use Rattle.scope_core.proofs.MemberLaws.{all-at}
 
 abbrev pub is_known : Takes → Bool
 is_known (listed trees) = false

@@ -216,7 +216,8 @@ fn push_values<'a>(
     values: &'a [EnumItem],
 ) -> Result<(), AllocError>
     ensures { OnOk result (Appends
-        (values_from id.«module» id.decl 1 exported group.now.text (map enum_value_of values.now)) piece.old piece.new) }
+        (values_from id.«module» id.decl 1 exported group.now.text (map enum_value_of values.now))
+        piece.old piece.new) }
 {
     for index in 0..values.len() {
         let id = EntityId {

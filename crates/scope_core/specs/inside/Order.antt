@@ -1,5 +1,5 @@
--- An order of modules in which each stands behind those that it imports. A list tells for each module, by its index, the
--- indices of those that it imports.
+-- An order of modules in which each stands behind those that it imports. A list tells for each module, by its index,
+-- the indices of those that it imports.
 use Rattle.std.specs.Prelude.{◌≡◌, ℕ, ◌==◌, ◌<◌, ltb, Bool, true, List, [], length, take, slice_get}
 use Rattle.std.specs.Prelude.{slice_index_or, Some}
 use Rattle.std.specs.List.{list_any, list_all}

@@ -54,7 +54,8 @@ loop-index-preserved c world pieces own are there number places table_at =
           (take (i + 1) own)
           w.note_declared.new.least w.note_declared.new.kinds l) (sym (ap (λ v. v.keys) w.seen-is))
           (noted-step world settled pieces c.args.module i taken at table own c.args.places.now entity
-          c.args.least.now c.loop-index.least w.note_declared.new.least c.loop-index.kinds.items w.note_declared.new.kinds
+          c.args.least.now c.loop-index.least w.note_declared.new.least
+          c.loop-index.kinds.items w.note_declared.new.kinds
           c.loop-index.seen.keys w.note_declared.new.seen.keys are table_at there places within place held
           (sym w.taken.ensures ∙ w.in-Some-taken.is)
           (c.loop-index.invariant world pieces own are there number places table_at)

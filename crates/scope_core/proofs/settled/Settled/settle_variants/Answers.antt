@@ -8,7 +8,8 @@ use Rattle.scope_core.proofs.settled.Settled.settle_variants.Goals as goal
 
 pub loop-index-init : goal.loop-index-init
 loop-index-init c =
-    variants-start c.args.scene c.args.module c.args.count c.args.self.now c.in_ok-begun.begun.items c.in_ok-begun.ensures
+    variants-start c.args.scene c.args.module c.args.count c.args.self.now c.in_ok-begun.begun.items
+    c.in_ok-begun.ensures
 
 pub loop-index-preserved : goal.loop-index-preserved
 loop-index-preserved c =
