@@ -241,6 +241,40 @@ def texts(run, root):
     run("an embedded text for a material", ["instance", root, "::df::a"], refused("9 NotBuilt"))
 
 
+def names(run, root):
+    """Faults of names. The module `::b` is imported, exports `x`, `f` and the enum `e`, and declares `y` as well."""
+    brought = b"mdl 1.6;\nexport struct x {};\nexport float f();\nfloat y() = 1.0;\nexport enum e { v };\n"
+    cases = (
+        ("float g() = 1.0;\nfloat g() = 2.0;", "30 Twice ::{} 3:7"),
+        ("float g(float[1] a);\nfloat g(float[2] a);\nfloat g(float[1] a);", "30 Twice ::{} 4:7"),
+        ("float g();\nfloat g() = 1.0;\nfloat g(*) = g();", "30 Twice ::{} 4:7"),
+        ("enum g { h, g };", "30 Twice ::{} 2:13"),
+        ("struct s { int a; float a; };", "30 Twice ::{} 2:25"),
+        ("/* \u00e9 */ annotation n(int a, int a);", "30 Twice ::{} 2:33"),
+        ("material material_surface() = material();\nfloat material_surface();", "30 Twice ::{} 3:7"),
+        ("import ::b::none;", "31 Unknown ::{} 2:13"),
+        ("using ::b import f, none;", "31 Unknown ::{} 2:21"),
+        ("import ::b::y;", "32 NotExported ::{} 2:13"),
+        ("using b import e, v, y;", "32 NotExported ::{} 2:22"),
+        ("using ::b import x;\nfloat x();", "33 Clash ::{} 2:18"),
+        ("using .::b import v;\nenum x { v };", "33 Clash ::{} 2:19"),
+        ("import ::b::y;\nfloat f() = 1.0;\nfloat f() = 1.0;", "32 NotExported ::{} 2:13"),
+    )
+    write(root, "b.mdl", brought)
+    put(root, "::c", ["using ::b import *;"])
+    run("several that are in order", ["check", root, "::c"], ok(2))
+    for own, (declared, line) in enumerate(cases):
+        write(root, f"t{own}.mdl", f"mdl 1.6;\n{declared}\n".encode())
+        put(root, f"::n{own}", ["import ::df::*;", f"import .::t{own}::*;", "import ::b::*;"])
+        wanted = refused(line.format(f"t{own}"))
+        run(line, ["check", root, f"::t{own}"], wanted)
+        run(f"{line}, imported", ["check", root, f"::n{own}"], wanted)
+        run(f"{line}, of a material", ["instance", root, f"::t{own}::a"], wanted)
+        run(f"{line}, behind an absent module", ["check", root, f"::t{own}", "::none"], refused("10 Absent ::none"))
+    run("two modules with faults", ["check", root, "::t7", "::t0"], refused("31 Unknown ::t7 2:13"))
+    run("the same, turned round", ["check", root, "::t0", "::t7"], refused("30 Twice ::t0 3:7"))
+
+
 def roots(run, root):
     put(f"{root}/a", "::m")
     put(f"{root}/a", "::n", ["import ::m::*;"])
@@ -291,6 +325,7 @@ GROUPS = (
     ("cycles", cycles),
     ("many modules", many_modules),
     ("bad texts", texts),
+    ("faults of names", names),
     ("roots", roots),
     ("words", words),
 )

@@ -1,6 +1,6 @@
 #!/usr/bin/env python3
-"""Runs `check` of the built program on made packages, and prints wall time and peak memory. Tests nothing but the
-answers.
+"""Runs `check` of the built program on made packages, and prints wall time, processor time and peak memory. Tests
+nothing but the answers.
 
 usage: bench/packages.py [PROGRAM]      (PROGRAM is crates/mdl_cli/out/mdl_cli where it isn't given)
 """
@@ -12,7 +12,7 @@ import tempfile
 sys.dont_write_bytecode = True
 
 from program import TOP
-from run import DONE, MB, REFUSED, RUNS, best, built, run_once
+from run import DONE, MB, REFUSED, RUNS, best, built, least, run_once
 
 EXAMPLE = os.path.join(TOP, "examples", "shop")
 EMBEDDED = ("::df", "::state", "::math", "::tex", "::anno")
@@ -109,14 +109,14 @@ SHAPES = (
 
 
 def answer(argv, folder):
-    """What one run answers, as its exit number and its two outputs, and then its time and its peak of memory."""
+    """What one run answers, as its exit number and its two outputs, and then the run."""
     with open(os.path.join(folder, "out"), "w+b") as out, open(os.path.join(folder, "diag"), "w+b") as diag:
-        number, seconds, peak = run_once(argv, out.fileno(), diag.fileno())
+        run = run_once(argv, out.fileno(), diag.fileno())
         texts = []
         for file in (out, diag):
             file.seek(0)
             texts.append(file.read().decode("utf-8", "backslashreplace"))
-    return (number, *texts), seconds, peak
+    return (run.number, *texts), run
 
 
 def shortened(text):
@@ -128,44 +128,57 @@ def difference(name, wanted, got):
 
 
 def measure(name, argv, wanted, folder, wrong):
-    """The least time and the least peak of some runs. Each has to answer what is wanted."""
+    """The least times and the least peak of some runs. Each has to answer what is wanted."""
     runs = [answer(argv, folder) for _ in range(RUNS)]
-    wrong.extend(sorted({difference(name, wanted, got) for got, _, _ in runs if got != wanted}))
-    return min(run[1] for run in runs), min(run[2] for run in runs)
+    wrong.extend(sorted({difference(name, wanted, got) for got, _ in runs if got != wanted}))
+    return least([run for _, run in runs])
 
 
 def show(name, count, measured, growth=""):
-    seconds, peak = measured
-    print(f"{name:24} {count:>7} {seconds * 1000:>10.2f} {peak / MB:>9.1f}  {growth}", flush=True)
+    print(f"{name:24} {count:>7} {measured.wall * 1000:>10.2f} {measured.processor * 1000:>10.2f}"
+          f" {measured.peak / MB:>9.1f}  {growth}", flush=True)
 
 
 def show_floor(folder):
     with open(os.path.join(folder, "out"), "wb") as out:
-        show("/bin/true (the floor)", 0, best(["/bin/true"], out.fileno())[1:])
+        show("/bin/true (the floor)", 0, best(["/bin/true"], out.fileno()))
 
 
-def main():
+def measure_shapes(program, shapes, folder, wrong):
+    """Each shape in each of its sizes, with the growth from one size to the next."""
+    for name, make, sizes in shapes:
+        before = None
+        for size in sizes:
+            with tempfile.TemporaryDirectory(dir=folder) as root:
+                words, wanted = make(root, size)
+                measured = measure(f"{name}, {size}", [program, "check", *words], wanted, folder, wrong)
+            growth = "" if before is None else \
+                f"{measured.processor / before.processor:.1f} times the processor time," \
+                f" {measured.peak / before.peak:.1f} times the peak"
+            show(name, size, measured, growth)
+            before = measured
+
+
+def show_all(head, shapes, known=()):
+    """The table of these shapes, behind that of packages whose words and number of modules are known."""
     program = built()
     wrong = []
     with tempfile.TemporaryDirectory(prefix="mdl-packages-") as folder:
-        print(f"{'modules':24} {'count':>7} {'ms':>10} {'peak MB':>9}  (best of {RUNS} runs)")
+        print(f"{head:24} {'count':>7} {'ms':>10} {'cpu ms':>10} {'peak MB':>9}  (best of {RUNS} runs)")
         show_floor(folder)
-        for name, words, count in (("the example", [EXAMPLE, "::shop::paint"], 4),
-                                   ("the embedded ones", [folder, *EMBEDDED], len(EMBEDDED))):
+        for name, words, count in known:
             show(name, count, measure(name, [program, "check", *words], ok(count), folder, wrong))
-        for name, make, sizes in SHAPES:
-            before = None
-            for size in sizes:
-                with tempfile.TemporaryDirectory(dir=folder) as root:
-                    words, wanted = make(root, size)
-                    measured = measure(f"{name}, {size}", [program, "check", *words], wanted, folder, wrong)
-                growth = "" if before is None else \
-                    f"{measured[0] / before[0]:.1f} times the time, {measured[1] / before[1]:.1f} times the peak"
-                show(name, size, measured, growth)
-                before = measured
+        measure_shapes(program, shapes, folder, wrong)
         show_floor(folder)
     if wrong:
         sys.exit("other answers than wanted:\n" + "\n".join(wrong))
+
+
+def main():
+    show_all("modules", SHAPES, (
+        ("the example", [EXAMPLE, "::shop::paint"], 4),
+        ("the embedded ones", [EXAMPLE, *EMBEDDED], len(EMBEDDED)),
+    ))
 
 
 if __name__ == "__main__":

@@ -1,5 +1,6 @@
 #!/usr/bin/env python3
-"""Runs the built program on made inputs, and prints wall time and peak memory. Tests nothing but the answers.
+"""Runs the built program on made inputs, and prints wall time, processor time and peak memory. Tests nothing but the
+answers.
 
 usage: bench/run.py [PROGRAM]      (PROGRAM is crates/mdl_cli/out/mdl_cli where it isn't given)
 """
@@ -8,6 +9,7 @@ import os
 import sys
 import tempfile
 import time
+from typing import NamedTuple, Optional
 
 sys.dont_write_bytecode = True
 
@@ -69,28 +71,40 @@ def built():
     return program
 
 
+class Run(NamedTuple):
+    """The exit number of a run, its wall and its processor time in seconds, and its peak memory in bytes."""
+    number: Optional[int]
+    wall: float
+    processor: float
+    peak: int
+
+
 def run_once(argv, out, diag=None):
-    """The exit number, the wall time in seconds and the peak memory in bytes of one run that writes to these files."""
+    """One run that writes to these files."""
     start = time.perf_counter()
     pid = os.posix_spawn(argv[0], argv, os.environ, file_actions=[
         (os.POSIX_SPAWN_DUP2, out, 1),
         (os.POSIX_SPAWN_DUP2, out if diag is None else diag, 2),
     ])
     _, status, usage = os.wait4(pid, 0)
-    return os.waitstatus_to_exitcode(status), time.perf_counter() - start, usage.ru_maxrss * 1024
+    wall = time.perf_counter() - start
+    return Run(os.waitstatus_to_exitcode(status), wall, usage.ru_utime + usage.ru_stime, usage.ru_maxrss * 1024)
+
+
+def least(runs):
+    """The least times and the least peak of runs, and their exit number, if that is one."""
+    numbers = {run.number for run in runs}
+    number = numbers.pop() if len(numbers) == 1 else None
+    return Run(number, *(min(run[column] for run in runs) for column in range(1, len(Run._fields))))
 
 
 def best(argv, out):
-    """The exit number, the least time and the least peak of some runs."""
-    runs = [run_once(argv, out) for _ in range(RUNS)]
-    numbers = {number for number, _, _ in runs}
-    number = numbers.pop() if len(numbers) == 1 else None
-    return number, min(run[1] for run in runs), min(run[2] for run in runs)
+    return least([run_once(argv, out) for _ in range(RUNS)])
 
 
 def show(name, size, measured, growth=""):
-    number, seconds, peak = measured
-    print(f"{name:24} {size:>9} {number!s:>6} {seconds * 1000:>10.2f} {peak / MB:>9.1f}  {growth}")
+    print(f"{name:24} {size:>9} {measured.number!s:>6} {measured.wall * 1000:>10.2f} {measured.processor * 1000:>10.2f}"
+          f" {measured.peak / MB:>9.1f}  {growth}", flush=True)
 
 
 def main():
@@ -102,22 +116,23 @@ def main():
         out = nothing.fileno()
         path = os.path.join(root, "m.mdl")
         argv = [program, "instance", root, "::m::m"]
-        print(f"{'input':24} {'bytes':>9} {'status':>6} {'ms':>10} {'peak MB':>9}  (best of {RUNS} runs)")
+        print(f"{'input':24} {'bytes':>9} {'status':>6} {'ms':>10} {'cpu ms':>10} {'peak MB':>9}"
+              f"  (best of {RUNS} runs)")
         show("/bin/true (the floor)", 0, best(["/bin/true"], out))
         make(path, text, b" ", b"", len(text))
         measured = best(argv, out)
         show("the first text", len(text), measured)
-        if measured[0] != DONE:
+        if measured.number != DONE:
             wrong.append("the first text")
         for name, before, pattern, after, wanted in inputs(text):
             times = []
             for size in SIZES:
                 make(path, before, pattern, after, size)
                 measured = best(argv, out)
-                times.append(measured[1])
-                growth = f"{times[-1] / times[0]:.1f} times the time of 1 MB" if len(times) > 1 else ""
+                times.append(measured.processor)
+                growth = f"{times[-1] / times[0]:.1f} times the cpu time of 1 MB" if len(times) > 1 else ""
                 show(name, size, measured, growth)
-                if measured[0] != wanted:
+                if measured.number != wanted:
                     wrong.append(f"{name}, {size} bytes")
     if wrong:
         sys.exit("other exit numbers than wanted: " + "; ".join(wrong))

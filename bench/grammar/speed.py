@@ -1,5 +1,5 @@
 #!/usr/bin/env python3
-"""Runs the built parser of expressions on made inputs, and prints wall time and peak memory.
+"""Runs the built parser of expressions on made inputs, and prints processor time and peak memory.
 
 usage: bench/grammar/speed.py [PROGRAM]
 
@@ -56,10 +56,10 @@ def inputs():
 
 
 def measure(program, mode, path, out):
-    """What the program answers, and the least time and peak of some runs."""
+    """What the program answers, and the least processor time and peak of some runs."""
     told = subprocess.run([program, mode, path], capture_output=True, text=True).stdout.strip()
-    number, seconds, peak = best([program, mode, path], out)
-    return told if number == 0 else f"exit {number}", seconds, peak
+    measured = best([program, mode, path], out)
+    return told if measured.number == 0 else f"exit {measured.number}", measured.processor, measured.peak
 
 
 def show(name, count, size, told, times, peak, note):
@@ -89,10 +89,10 @@ def run(modes, inputs):
     with tempfile.TemporaryDirectory(prefix="mdl-speed-") as folder, open(os.devnull, "wb") as nothing:
         program = os.path.abspath(sys.argv[1]) if len(sys.argv) > 1 else reader.build(folder)
         out = nothing.fileno()
-        heads = "".join(f" {head:>10}" for head in ("ms", *(f"{mode} ms" for mode in modes[1:])))
+        heads = "".join(f" {head:>10}" for head in ("cpu ms", *(f"{mode} ms" for mode in modes[1:])))
         print(f"{'input':20} {'count':>9} {'bytes':>10} {'answer':>9}{heads} {'peak MB':>9}  (best of {RUNS} runs)")
-        _, seconds, peak = best(["/bin/true"], out)
-        show("/bin/true", "", "", "", [seconds] * len(modes), peak, "(the floor)")
+        floor = best(["/bin/true"], out)
+        show("/bin/true", "", "", "", [floor.processor] * len(modes), floor.peak, "(the floor)")
         wrong = run_all(program, modes, inputs, os.path.join(folder, "words"), out)
     if wrong:
         sys.exit("other answers than wanted: " + "; ".join(wrong))

@@ -1,5 +1,5 @@
 #!/usr/bin/env python3
-"""Runs the built parser of modules on made inputs, and prints wall time and peak memory.
+"""Runs the built parser of modules on made inputs, and prints processor time and peak memory.
 
 usage: bench/grammar/speed_modules.py [PROGRAM]
 

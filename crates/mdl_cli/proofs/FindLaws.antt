@@ -34,11 +34,13 @@ use Rattle.mdl_cli.specs.declared.answer.Answer.TheVariants as answer
 use Rattle.mdl_cli.specs.Words.{kinds_of}
 use Rattle.mdl_cli.specs.FirstText.{AreFirstWords, IsFirstText}
 use Rattle.mdl_cli.specs.Lines.{usage_line, not_built_line, load_line}
-use Rattle.mdl_cli.specs.Outcome.{asked, material_name, ok_text, AnswersTask, RefusesTask}
+use Rattle.scope_core.specs.ScopeFaults.{scope_faults}
+use Rattle.mdl_cli.specs.Outcome.{asked, material_name, ok_text, names_in, AnswersTask, RefusesTask}
+use Rattle.mdl_cli.specs.Outcome.{RefusesMembers}
 use Rattle.mdl_cli.specs.Headline.{RefusalLine}
 use Rattle.mdl_cli.specs.inside.Delivery.{HasCause, Finds, FindsIn, FindsInText, FindsInTexts, FindsInWords}
 use Rattle.mdl_cli.specs.inside.Delivery.{FindsAt, IsLine, IsText, Told, Given, Refuses, AreShort}
-use Rattle.mdl_cli.specs.inside.Delivery.{WithoutWords}
+use Rattle.mdl_cli.specs.inside.Delivery.{WithoutWords, FindsTask, TellsScopes}
 use Rattle.mdl_cli.proofs.OutcomeLaws.{only_one}
 
 -- a line or a text that may have failed is told, if there was memory for it
@@ -119,7 +121,7 @@ short-texts roots first source set (files, held, loaded) =
     (texts-from set.names set.modules set.texts loaded.whole.0 loaded.whole.1)
     (all-short (packages_of roots files) (members_of set) loaded.are.each)
 
--- What is found over modules that are loaded.
+-- What is found over modules with whose names nothing is wrong.
 
 abbrev FindsOver : Task → List Member → Answer → Type 0
 FindsOver own members (answer.Text text) = AnswersTask own members text.items
@@ -187,7 +189,7 @@ check_over modules members count answer.Usage same is = absurd is
 check_over modules members count answer.ReadFault same is = absurd is
 
 task_over : (own : Task) (set : ModuleSet) (found : Answer) → length set.modules ≡ length set.names →
-    length set.texts ≡ length set.names → FindsIn own set found → FindsOver own (members_of set) found
+    length set.texts ≡ length set.names → FindsTask own set found → FindsOver own (members_of set) found
 task_over (task.Instance own material) set found all each is =
     instance_over own material (members_of set) found
     (subst (λ texts. FindsInTexts (material_name own material) material texts found)
@@ -196,14 +198,48 @@ task_over (task.Check modules) set found all each is =
     check_over modules (members_of set) (length set.names) found
     (count-from set.names set.modules set.texts all each) is
 
+-- What is found over modules that are loaded.
+
+abbrev FindsLoaded : Task → List Member → Answer → Type 0
+FindsLoaded own members (answer.Text text) =
+    (scope_faults (names_in members) members ≡ []) × AnswersTask own members text.items
+FindsLoaded own members (answer.Refused line) = RefusesMembers own members line.items
+FindsLoaded own members answer.NotBuilt = RefusesMembers own members not_built_line
+FindsLoaded own members answer.OutOfMemory = Unit {0}
+FindsLoaded own members _ = ⊥
+
+clean_loaded : (own : Task) (members : List Member) (found : Answer) → scope_faults (names_in members) members ≡ [] →
+    FindsOver own members found → FindsLoaded own members found
+clean_loaded own members (answer.Text text) clean is = (clean, is)
+clean_loaded own members (answer.Refused line) clean is = inr (record { clean = clean; refuses = is })
+clean_loaded own members answer.NotBuilt clean is = inr (record { clean = clean; refuses = is })
+clean_loaded own members answer.OutOfMemory clean is = tt
+clean_loaded own members answer.Usage clean is = is
+clean_loaded own members answer.ReadFault clean is = is
+
+scopes_loaded : (own : Task) (members : List Member) (found : Answer) → TellsScopes members found →
+    FindsLoaded own members found
+scopes_loaded own members (answer.Text text) told = absurd told
+scopes_loaded own members (answer.Refused line) told = inl told
+scopes_loaded own members answer.NotBuilt told = absurd told
+scopes_loaded own members answer.OutOfMemory told = tt
+scopes_loaded own members answer.Usage told = told
+scopes_loaded own members answer.ReadFault told = told
+
+set_loaded : (own : Task) (set : ModuleSet) (found : Answer) → length set.modules ≡ length set.names →
+    length set.texts ≡ length set.names → FindsIn own set found → FindsLoaded own (members_of set) found
+set_loaded own set found all each (inl (clean, is)) =
+    clean_loaded own (members_of set) found clean (task_over own set found all each is)
+set_loaded own set found all each (inr told) = scopes_loaded own (members_of set) found told
+
 over_found : (request : Request) (source after : SourceState) (files : List File) (members : List Member)
     (found : Answer) → MayHold source files →
     AreLoaded (packages_of request.roots files) (asked request.task) members →
-    FindsOver request.task members found → FindsAt request source after found
+    FindsLoaded request.task members found → FindsAt request source after found
 over_found request source after files members (answer.Text text) held loaded is = record {
   files = files;
   held = held;
-  answers = record { members = members; loaded = loaded; answers = is };
+  answers = record { members = members; loaded = loaded; clean = is.0; answers = is.1 };
 }
 over_found request source after files members (answer.Refused line) held loaded is = record {
   files = files;
@@ -228,7 +264,7 @@ loaded_found request source after roots first set found same wanted (files, held
     over_found request source after files (members_of set) found held
     (subst (λ first. AreLoaded (packages_of request.roots files) first (members_of set)) wanted
     (subst (λ roots. AreLoaded (packages_of roots files) first (members_of set)) same loaded.are))
-    (task_over request.task set found loaded.whole.0 loaded.whole.1 is)
+    (set_loaded request.task set found loaded.whole.0 loaded.whole.1 is)
 
 -- What is found where modules can't be loaded.
 

@@ -7,5 +7,6 @@ pub mod HeadlineLaws
 pub mod KidLaws
 pub mod OutcomeLaws
 pub mod PutLaws
+pub mod ScopeLaws
 pub mod TermReading
 pub mod TreeLaws

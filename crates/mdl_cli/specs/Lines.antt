@@ -8,6 +8,8 @@ use Rattle.expression_grammar.specs.declared.fault.ParseFault.{ParseFault}
 use Rattle.expression_grammar.specs.declared.fault.ParseFault.TheVariants as grammar
 use Rattle.module_set.specs.declared.module_name.ModuleName.{ModuleName}
 use Rattle.module_set.specs.Names.{written_name}
+use Rattle.scope_core.specs.declared.looked.ScopeFault.{ScopeFault}
+use Rattle.scope_core.specs.declared.looked.ScopeFault.TheVariants as scoping
 use Rattle.module_loader.specs.declared.fault.LoadFault.{LoadFault}
 use Rattle.module_loader.specs.declared.fault.LoadFault.TheVariants as fault
 
@@ -87,6 +89,14 @@ load_line fault.TooMany = too_many_line
 load_line (fault.Cycle path) = cycle_line path
 load_line fault.ReadFault = read_fault_line
 load_line fault.OutOfMemory = out_of_memory_line
+
+-- what is wrong with a name of a module
+abbrev pub scope_line : ModuleName → ScopeFault → Place → List ℕ
+scope_line name (scoping.Twice m at) place = codes "error 30 Twice " ++ site name place
+scope_line name (scoping.Unknown m at) place = codes "error 31 Unknown " ++ site name place
+scope_line name (scoping.NotExported m at) place = codes "error 32 NotExported " ++ site name place
+scope_line name (scoping.Clash m at) place = codes "error 33 Clash " ++ site name place
+scope_line name scoping.OutOfMemory place = out_of_memory_line
 
 -- a material that its module doesn't have
 abbrev pub material_unknown_line : List ℕ

@@ -1,11 +1,15 @@
 -- The answer to a command line over files, and the refusal where there is no answer.
-use Rattle.std.specs.Prelude.{◌≡◌, ◌≢◌, ◌⊎◌, ℕ, List, [], ◌∷◌, ◌++◌, codes, decimal, length}
+use Rattle.std.specs.Prelude.{◌≡◌, ◌≢◌, ◌⊎◌, ℕ, List, [], ◌∷◌, ◌++◌, Some, codes}
+use Rattle.std.specs.Prelude.{decimal, length, map, slice_get}
 use Rattle.io_edge.specs.Source.{File}
 use Rattle.type_rules.specs.Terms.{Term}
 use Rattle.module_set.specs.declared.module_name.ModuleName.{ModuleName}
 use Rattle.module_set.specs.Names.{named, written_name}
 use Rattle.module_set.specs.Members.{Member}
+use Rattle.scope_core.specs.declared.looked.ScopeFault.{ScopeFault}
+use Rattle.scope_core.specs.ScopeFaults.{scope_faults, fault_key, IsLeast}
 use Rattle.module_loader.specs.declared.fault.LoadFault.{LoadFault}
+use Rattle.module_loader.specs.TextFaults.{place_in}
 use Rattle.module_loader.specs.LoadFaults.{HasLoadFault}
 use Rattle.module_loader.specs.Loads.{packages_of, AreLoaded}
 use Rattle.command_words.specs.declared.request.Request.{Request}
@@ -16,7 +20,7 @@ use Rattle.mdl_cli.specs.declared.status.Status.{Status}
 use Rattle.mdl_cli.specs.declared.status.Status.TheVariants as status
 use Rattle.mdl_cli.specs.FirstText.{IsFirstText}
 use Rattle.mdl_cli.specs.GraphText.{instance_text}
-use Rattle.mdl_cli.specs.Lines.{usage_line, not_built_line, load_line, material_unknown_line}
+use Rattle.mdl_cli.specs.Lines.{usage_line, not_built_line, load_line, scope_line, material_unknown_line}
 
 -- the modules that a task asks for
 abbrev pub asked : Task → List ModuleName
@@ -44,10 +48,16 @@ abbrev pub AnswersTask : Task → List Member → List ℕ → Type 0
 AnswersTask (task.Instance own material) members text = IsInstance own material members text
 AnswersTask (task.Check modules) members text = text ≡ ok_text (length members)
 
--- the modules that a request asks for are loaded from the files, and this is the text of its task
+-- the names of modules
+abbrev pub names_in : List Member → List ModuleName
+names_in members = map (λ (member : Member). member.name) members
+
+-- the modules that a request asks for are loaded from the files, nothing is wrong with their names, and this is the
+-- text of its task
 pub record AnswersRequest (request : Request) (files : List File) (text : List ℕ) : Type 0 where
   pub members : List Member
   pub loaded : AreLoaded (packages_of request.roots files) (asked request.task) members
+  pub clean : scope_faults (names_in members) members ≡ []
   pub answers : AnswersTask request.task members text
 
 -- the answer: the words are a request, and this is its text
@@ -84,11 +94,31 @@ pub record RefusesLoad (request : Request) (files : List File) (line : List ℕ)
   pub stands : HasLoadFault (packages_of request.roots files) (asked request.task) fault
   pub line_is : line ≡ load_line fault
 
--- they are loaded, and the task is refused
+-- the line of a fault at a byte of a module, by its index
+pub record HasLineAt (members : List Member) (fault : ScopeFault) (m at : ℕ) (line : List ℕ) : Type 0 where
+  pub member : Member
+  pub is : slice_get members m ≡ Some member
+  pub line_is : line ≡ scope_line member.name fault (place_in member.text at)
+
+-- something is wrong with the names of modules, and this is the line of the first fault
+pub record RefusesScopes (members : List Member) (line : List ℕ) : Type 0 where
+  pub fault : ScopeFault
+  pub least : IsLeast (scope_faults (names_in members) members) fault
+  pub told : HasLineAt members fault (fault_key fault).0 (fault_key fault).1 line
+
+-- nothing is, and the task is refused
+pub record RefusesClean (own : Task) (members : List Member) (line : List ℕ) : Type 0 where
+  pub clean : scope_faults (names_in members) members ≡ []
+  pub refuses : RefusesTask own members line
+
+abbrev pub RefusesMembers : Task → List Member → List ℕ → Type 0
+RefusesMembers own members line = RefusesScopes members line ⊎ RefusesClean own members line
+
+-- they are loaded, and refused
 pub record RefusesLoaded (request : Request) (files : List File) (line : List ℕ) : Type 0 where
   pub members : List Member
   pub loaded : AreLoaded (packages_of request.roots files) (asked request.task) members
-  pub refuses : RefusesTask request.task members line
+  pub refuses : RefusesMembers request.task members line
 
 abbrev pub RefusesRequest : Request → List File → List ℕ → Type 0
 RefusesRequest request files line = RefusesLoad request files line ⊎ RefusesLoaded request files line

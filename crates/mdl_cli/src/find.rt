@@ -2,27 +2,32 @@ ghost use Rattle.std.specs.Prelude.{◌≡◌, ◌++◌, ◌≤◌, map, length,
 ghost use Rattle.std.specs.List.{AllByRecursion};
 ghost use Rattle.type_rules.specs.Terms.{IsTyped};
 ghost use Rattle.module_set.specs.Names.{written_name};
+ghost use Rattle.module_set.specs.Members.{members_of};
+ghost use Rattle.module_set.specs.ModuleSets.{IsModuleSet};
+ghost use Rattle.scope_core.specs.Places.{HasPlace, IsAtName};
 ghost use Rattle.mdl_cli.specs.Words.{kinds_of};
 ghost use Rattle.mdl_cli.specs.GraphText.{instance_text};
-ghost use Rattle.mdl_cli.specs.Outcome.{asked, material_name, ok_text};
+ghost use Rattle.mdl_cli.specs.Outcome.{asked, material_name, ok_text, HasLineAt};
 ghost use Rattle.mdl_cli.specs.inside.Trees.{term_of};
 ghost use Rattle.mdl_cli.specs.inside.Delivery.{Finds, FindsAt, FindsIn, FindsInText, FindsInTexts, FindsInWords};
 ghost use Rattle.mdl_cli.specs.inside.Delivery.{Refuses, Told, Given, WithoutWords, AreShort};
+ghost use Rattle.mdl_cli.specs.inside.Delivery.{FindsTask, TellsScope};
 
 use crate::answer::Answer;
 use crate::first_text::read_first;
 use crate::graph_text::{push_number, write_instance};
-use crate::lines::{load_line, material_unknown_line, push_name, push_part};
+use crate::lines::{load_line, material_unknown_line, push_name, push_part, scope_line};
 use crate::put::put_tree;
 use crate::terms::ReadError;
 use crate::tree::Tree;
 use case_table::{OutOfMemory, Text};
 use command_words::{Request, Task, names_command, read_request};
 use dag_store::Store;
-use io_edge::{Gate, Source};
+use io_edge::{Gate, Source, place_of};
 use mdl_lexer::{LexFault, Token, lex};
 use module_loader::{LoadFault, load};
 use module_set::{ModuleName, ModuleSet};
+use scope_core::{ScopeFault, Scopes};
 use std::alloc::{AllocError, Global};
 use std::thread::Threads;
 
@@ -125,8 +130,55 @@ fn refuse(alloc: Global, fault: &LoadFault) -> Answer
 
 /// What is found for a task in a set that is loaded.
 fn find_in(alloc: Global, task: &Task, set: &ModuleSet) -> Answer
-    requires { AreShort set.now }
+    requires short { AreShort set.now }
+    requires is_set { IsModuleSet set.now }
     ensures { FindsIn task.now set.now result }
+{
+    match Scopes::new(alloc, set) {
+        Ok(_scopes) => find_task(alloc, task, set),
+        Err(fault) => refuse_scope(alloc, set, fault),
+    }
+}
+
+/// The refusal of a set for what is wrong with a name.
+fn refuse_scope(alloc: Global, set: &ModuleSet, fault: ScopeFault) -> Answer
+    requires short { AreShort set.now }
+    requires is_set { IsModuleSet set.now }
+    requires placed { IsAtName set.now fault }
+    ensures { TellsScope (members_of set.now) fault result }
+{
+    match fault {
+        ScopeFault::Twice { module, at } => refused(line_at(alloc, set, fault, module, at)),
+        ScopeFault::Unknown { module, at } => refused(line_at(alloc, set, fault, module, at)),
+        ScopeFault::NotExported { module, at } => refused(line_at(alloc, set, fault, module, at)),
+        ScopeFault::Clash { module, at } => refused(line_at(alloc, set, fault, module, at)),
+        ScopeFault::OutOfMemory => Answer::OutOfMemory,
+    }
+}
+
+/// The line of a fault at a byte of a module.
+fn line_at(
+    alloc: Global,
+    set: &ModuleSet,
+    fault: ScopeFault,
+    module: u32,
+    at: u32,
+) -> Result<Vec<u8>, AllocError>
+    requires short { AreShort set.now }
+    requires is_set { IsModuleSet set.now }
+    requires placed { HasPlace (members_of set.now) «module» at }
+    ensures { IfOk result (λ line. HasLineAt (members_of set.now) fault «module» at line.items) }
+{
+    let name = &set.names.list()[module as usize];
+    let text = set.texts.list()[module as usize].as_str();
+    let place = place_of(text.as_bytes(), at as usize);
+    scope_line(alloc, name, fault, place)
+}
+
+/// What is found for a task in a set with whose names nothing is wrong.
+fn find_task(alloc: Global, task: &Task, set: &ModuleSet) -> Answer
+    requires { AreShort set.now }
+    ensures { FindsTask task.now set.now result }
 {
     match task {
         Task::Instance { module, material } => {

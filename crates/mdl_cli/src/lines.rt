@@ -3,7 +3,7 @@ ghost use Rattle.std.specs.List.{flat_map};
 ghost use Rattle.module_set.specs.Names.{written_name};
 ghost use Rattle.mdl_cli.specs.Lines.{absent_line, name_end, lexical_line, grammar_line, cycle_line, load_line};
 ghost use Rattle.mdl_cli.specs.Lines.{too_many_line, material_unknown_line, site, site_word, place_end, place_word};
-ghost use Rattle.mdl_cli.specs.Lines.{word_end};
+ghost use Rattle.mdl_cli.specs.Lines.{word_end, scope_line};
 
 use crate::graph_text::push_number;
 use case_table::Text;
@@ -12,6 +12,7 @@ use io_edge::Place;
 use mdl_lexer::LexFault;
 use module_loader::LoadFault;
 use module_set::ModuleName;
+use scope_core::ScopeFault;
 use std::alloc::{AllocError, Global};
 
 /// The line for modules that can't be loaded.
@@ -177,6 +178,24 @@ fn push_behind_blank(line: &mut Vec<u8>, name: &ModuleName) -> Result<(), AllocE
     line.extend_from_slice(b" ")?;
     push_name(line, name)?;
     Ok(())
+}
+
+/// The line for a name of a module with which something is wrong.
+pub fn scope_line(
+    alloc: Global,
+    name: &ModuleName,
+    fault: ScopeFault,
+    place: Place,
+) -> Result<Vec<u8>, AllocError>
+    ensures { IfOk result (λ line. line.items ≡ scope_line name.now fault place) }
+{
+    match fault {
+        ScopeFault::Twice { .. } => site_line(alloc, b"error 30 Twice ", name, place),
+        ScopeFault::Unknown { .. } => site_line(alloc, b"error 31 Unknown ", name, place),
+        ScopeFault::NotExported { .. } => site_line(alloc, b"error 32 NotExported ", name, place),
+        ScopeFault::Clash { .. } => site_line(alloc, b"error 33 Clash ", name, place),
+        ScopeFault::OutOfMemory => Vec::from_slice(alloc, b"error 4 OutOfMemory\n"),
+    }
 }
 
 /// The line for a module that has no material of the name that was asked for.

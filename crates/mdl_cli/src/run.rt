@@ -11,6 +11,7 @@ use crate::status::Status;
 use command_words::one_request;
 use io_edge::{Gate, Sink, Source, write_whole};
 use module_loader::one_load;
+use scope_core::one_scope_fault;
 use std::alloc::Global;
 use std::thread::Threads;
 
@@ -100,4 +101,5 @@ pub fn one_outcome()
 {
     one_request();
     one_load();
+    one_scope_fault();
 }

@@ -197,7 +197,7 @@ fn files_of(alloc: Global, written: &str) -> Result<Vec<(String, Vec<u8>)>, Fail
 fn packages(rt: HostRuntime) -> Result<(), Fail> {
     let alloc = rt.alloc();
     // files, the words behind the roots, the answer, the line
-    let cases: [(&str, &[&str], &str, &str); 9] = [
+    let cases: [(&str, &[&str], &str, &str); 15] = [
         (
             "r/shop/paint.mdl=mdl 1.6;@import ::df::*;@import ::state::*;@using ::anno import *;@",
             &["check", "r", "::shop::paint"],
@@ -247,6 +247,42 @@ fn packages(rt: HostRuntime) -> Result<(), Fail> {
             "error 10 Absent ::none from ::m 2:8\n",
         ),
         ("", &["instance", "r", "::df::m"], "", "error 9 NotBuilt\n"),
+        (
+            "r/m.mdl=mdl 1.6;@using ::b import x;@|r/b.mdl=mdl 1.6;@export float x() = 1.0;@",
+            &["check", "r", "::m"],
+            "ok 2\n",
+            "",
+        ),
+        (
+            "r/m.mdl=mdl 1.6;@float f() = 1.0;@float f() = 2.0;@",
+            &["check", "r", "::m"],
+            "",
+            "error 30 Twice ::m 3:7\n",
+        ),
+        (
+            "r/m.mdl=mdl 1.6;@import ::b::x;@|r/b.mdl=mdl 1.6;@",
+            &["check", "r", "::m"],
+            "",
+            "error 31 Unknown ::m 2:13\n",
+        ),
+        (
+            "r/m.mdl=mdl 1.6;@import ::b::*;@|r/b.mdl=mdl 1.6;@using ::c import x;@|r/c.mdl=mdl 1.6;@float x() = 1.0;@",
+            &["check", "r", "::m"],
+            "",
+            "error 32 NotExported ::b 2:18\n",
+        ),
+        (
+            "r/m.mdl=mdl 1.6;@using ::b import x;@struct x { float a; };@|r/b.mdl=mdl 1.6;@export float x() = 1.0;@",
+            &["check", "r", "::m"],
+            "",
+            "error 33 Clash ::m 2:18\n",
+        ),
+        (
+            "r/m.mdl=mdl 1.6;@export material m(float a, float a) = material();@",
+            &["instance", "r", "::m::m"],
+            "",
+            "error 30 Twice ::m 2:34\n",
+        ),
     ];
     for (files, list, text, line) in cases {
         let words = words(alloc, list)?;

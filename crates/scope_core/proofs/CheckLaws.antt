@@ -31,7 +31,7 @@ use Rattle.scope_core.specs.inside.Lessening.{least_onto}
 use Rattle.scope_core.proofs.LeastLaws.{least_onto-least, least_onto-none}
 use Rattle.scope_core.proofs.MemberLaws.{both-all, any-both, all-at}
 
-abbrev is_from : ℕ → ScopeFault → Bool
+abbrev pub is_from : ℕ → ScopeFault → Bool
 is_from m fault = (fault_key fault).0 == m
 
 abbrev is_past : ℕ → ScopeFault → Bool
@@ -47,27 +47,54 @@ pub record Accepts (test : ScopeFault → Bool) (m : ℕ) : Type 0 where
   pub not_exported_is : (at : ℕ) → test (not_exported m at) ≡ true
   pub clash_is : (at : ℕ) → test (clash m at) ≡ true
 
+-- the same for faults at good places alone
+pub record AcceptsAt (good : ℕ → Bool) (test : ScopeFault → Bool) (m : ℕ) : Type 0 where
+  pub twice_is : (at : ℕ) → good at ≡ true → test (twice m at) ≡ true
+  pub unknown_is : (at : ℕ) → good at ≡ true → test (unknown m at) ≡ true
+  pub not_exported_is : (at : ℕ) → good at ≡ true → test (not_exported m at) ≡ true
+  pub clash_is : (at : ℕ) → good at ≡ true → test (clash m at) ≡ true
+
+-- names at good places
+abbrev pub is_good : (ℕ → Bool) → Ident → Bool
+is_good good name = good name.span.at
+
+abbrev pub are_good : (ℕ → Bool) → List Ident → Bool
+are_good good names = list_all (is_good good) names
+
+abbrev pub brings_good : (ℕ → Bool) → Bringing → Bool
+brings_good good bringing = are_good good (listed_by bringing.names)
+
+abbrev pub parameter_names : Declaration → List Ident
+parameter_names declaration = map (λ (parameter : Parameter). parameter.name) (parameters_of declaration)
+
+abbrev pub takes_good : (ℕ → Bool) → Declaration → Bool
+takes_good good declaration = are_good good (parameter_names declaration)
+
 one-or-none : (test : ScopeFault → Bool) (b : Bool) (one : ScopeFault) → test one ≡ true
     → list_all test (if b then one ∷ [] else []) ≡ true
 one-or-none test true one is = ap (λ c. c && true) is
 one-or-none test false one is = refl
 
-flat-pass : {A : Type 0} (test : ScopeFault → Bool) (f : A → List ScopeFault) (xs : List A)
-    → ((x : A) → list_all test (f x) ≡ true) → list_all test (flat_map f xs) ≡ true
-flat-pass test f [] each = refl
-flat-pass test f (x ∷ xs) each = both-all test (f x) (flat_map f xs) (each x) (flat-pass test f xs each)
+flat-pass : {A : Type 0} (here : A → Bool) (test : ScopeFault → Bool) (f : A → List ScopeFault) (xs : List A)
+    → ((x : A) → here x ≡ true → list_all test (f x) ≡ true) → list_all here xs ≡ true
+    → list_all test (flat_map f xs) ≡ true
+flat-pass here test f [] each all = refl
+flat-pass here test f (x ∷ xs) each all =
+    let apart = and_parts (here x) (list_all here xs) all in
+    both-all test (f x) (flat_map f xs) (each x apart.0) (flat-pass here test f xs each apart.1)
 
-listed-pass : (test : ScopeFault → Bool) (m : ℕ) (before names : List Ident) → Accepts test m
-    → list_all test (twice_listed m before names) ≡ true
-listed-pass test m before [] accepts = refl
-listed-pass test m before (name ∷ names) accepts =
+listed-pass : (good : ℕ → Bool) (test : ScopeFault → Bool) (m : ℕ) (before names : List Ident)
+    → AcceptsAt good test m → are_good good names ≡ true → list_all test (twice_listed m before names) ≡ true
+listed-pass good test m before [] accepts all = refl
+listed-pass good test m before (name ∷ names) accepts all =
+    let apart = and_parts (is_good good name) (are_good good names) all in
     both-all test
     (if list_any (λ (earlier : Ident). bytes_eq earlier.text name.text) before then twice m name.span.at ∷ [] else [])
     (twice_listed m (before ++ name ∷ []) names)
-    (one-or-none test _ (twice m name.span.at) (accepts.twice_is name.span.at))
-    (listed-pass test m (before ++ name ∷ []) names accepts)
+    (one-or-none test _ (twice m name.span.at) (accepts.twice_is name.span.at apart.0))
+    (listed-pass good test m (before ++ name ∷ []) names accepts apart.1)
 
-abbrev accepts_place : (ScopeFault → Bool) → Declared → Bool
+abbrev pub accepts_place : (ScopeFault → Bool) → Declared → Bool
 accepts_place test one = test (twice one.entity.id.module one.at)
 
 among-pass : (test : ScopeFault → Bool) (types : Declared → List Ty) (before own : List Declared)
@@ -82,27 +109,50 @@ among-pass test types before (one ∷ own) inside =
     (one-or-none test _ (twice one.entity.id.module one.at) apart.0)
     (among-pass test types (before ++ one ∷ []) own apart.1)
 
-missing-pass : (test : ScopeFault → Bool) (m at : ℕ) (all exported : List Declared) → Accepts test m
-    → list_all test (missing_name m at all exported) ≡ true
-missing-pass test m at [] exported accepts = ap (λ b. b && true) (accepts.unknown_is at)
-missing-pass test m at (one ∷ more) [] accepts = ap (λ b. b && true) (accepts.not_exported_is at)
-missing-pass test m at (one ∷ more) (other ∷ others) accepts = refl
+missing-pass : (good : ℕ → Bool) (test : ScopeFault → Bool) (m at : ℕ) (all exported : List Declared)
+    → AcceptsAt good test m → good at ≡ true → list_all test (missing_name m at all exported) ≡ true
+missing-pass good test m at [] exported accepts here = ap (λ b. b && true) (accepts.unknown_is at here)
+missing-pass good test m at (one ∷ more) [] accepts here = ap (λ b. b && true) (accepts.not_exported_is at here)
+missing-pass good test m at (one ∷ more) (other ∷ others) accepts here = refl
 
-imports-pass : (test : ScopeFault → Bool) (entities : List Declared) (m : ℕ) (earlier bringings : List Bringing)
-    → Accepts test m → list_all test (import_faults entities m earlier bringings) ≡ true
-imports-pass test entities m earlier [] accepts = refl
-imports-pass test entities m earlier (bringing ∷ bringings) accepts =
+imports-pass : (good : ℕ → Bool) (test : ScopeFault → Bool) (entities : List Declared) (m : ℕ)
+    (earlier bringings : List Bringing) → AcceptsAt good test m → list_all (brings_good good) bringings ≡ true
+    → list_all test (import_faults entities m earlier bringings) ≡ true
+imports-pass good test entities m earlier [] accepts all = refl
+imports-pass good test entities m earlier (bringing ∷ bringings) accepts all =
+    let apart = and_parts (brings_good good bringing) (list_all (brings_good good) bringings) all in
     both-all test (flat_map (name_faults entities m earlier bringing) (listed_by bringing.names))
     (import_faults entities m (earlier ++ bringing ∷ []) bringings)
-    (flat-pass test (name_faults entities m earlier bringing) (listed_by bringing.names)
-    (λ name. both-all test
+    (flat-pass (is_good good) test (name_faults entities m earlier bringing) (listed_by bringing.names)
+    (λ name here. both-all test
     (missing_name m name.span.at (of_name entities bringing.from name.text)
     (exported_of entities bringing.from name.text))
     (clash_of entities m earlier bringing name)
-    (missing-pass test m name.span.at (of_name entities bringing.from name.text)
-    (exported_of entities bringing.from name.text) accepts)
-    (one-or-none test _ (clash m name.span.at) (accepts.clash_is name.span.at))))
-    (imports-pass test entities m (earlier ++ bringing ∷ []) bringings accepts)
+    (missing-pass good test m name.span.at (of_name entities bringing.from name.text)
+    (exported_of entities bringing.from name.text) accepts here)
+    (one-or-none test _ (clash m name.span.at) (accepts.clash_is name.span.at here)))
+    apart.0)
+    (imports-pass good test entities m (earlier ++ bringing ∷ []) bringings accepts apart.1)
+
+-- the faults of a module whose names stand at good places pass
+pub places-pass : (good : ℕ → Bool) (test : ScopeFault → Bool) (types : Declared → List Ty)
+    (standing own : List Declared) (m : ℕ) (bringings : List Bringing) (declarations : List Declaration)
+    → AcceptsAt good test m → list_all (accepts_place test) own ≡ true
+    → list_all (brings_good good) bringings ≡ true → list_all (takes_good good) declarations ≡ true
+    → list_all test (import_faults standing m [] bringings
+    ++ (twice_among types [] own ++ flat_map (parameter_faults m) declarations)) ≡ true
+places-pass good test types standing own m bringings declarations accepts inside brings takes =
+    both-all test (import_faults standing m [] bringings)
+    (twice_among types [] own ++ flat_map (parameter_faults m) declarations)
+    (imports-pass good test standing m [] bringings accepts brings)
+    (both-all test (twice_among types [] own) (flat_map (parameter_faults m) declarations)
+    (among-pass test types [] own inside)
+    (flat-pass (takes_good good) test (parameter_faults m) declarations
+    (λ declaration here. listed-pass good test m [] (parameter_names declaration) accepts here) takes))
+
+all-true : {A : Type 0} (test : A → Bool) (xs : List A) → ((x : A) → test x ≡ true) → list_all test xs ≡ true
+all-true test [] each = refl
+all-true test (x ∷ xs) each = ap (λ b. b && list_all test xs) (each x) ∙ all-true test xs each
 
 -- the faults of a module pass
 pub module-pass : (test : ScopeFault → Bool) (types : Declared → List Ty) (standing own : List Declared) (m : ℕ)
@@ -111,14 +161,18 @@ pub module-pass : (test : ScopeFault → Bool) (types : Declared → List Ty) (s
     → list_all test (import_faults standing m [] bringings
     ++ (twice_among types [] own ++ flat_map (parameter_faults m) declarations)) ≡ true
 module-pass test types standing own m bringings declarations accepts inside =
-    both-all test (import_faults standing m [] bringings)
-    (twice_among types [] own ++ flat_map (parameter_faults m) declarations)
-    (imports-pass test standing m [] bringings accepts)
-    (both-all test (twice_among types [] own) (flat_map (parameter_faults m) declarations)
-    (among-pass test types [] own inside)
-    (flat-pass test (parameter_faults m) declarations
-    (λ declaration. listed-pass test m []
-    (map (λ (parameter : Parameter). parameter.name) (parameters_of declaration)) accepts)))
+    places-pass (λ at. true) test types standing own m bringings declarations
+    (record {
+      twice_is = λ at good. accepts.twice_is at;
+      unknown_is = λ at good. accepts.unknown_is at;
+      not_exported_is = λ at good. accepts.not_exported_is at;
+      clash_is = λ at good. accepts.clash_is at;
+    })
+    inside
+    (all-true (brings_good (λ at. true)) bringings
+    (λ bringing. all-true (is_good (λ at. true)) (listed_by bringing.names) (λ name. refl)))
+    (all-true (takes_good (λ at. true)) declarations
+    (λ declaration. all-true (is_good (λ at. true)) (parameter_names declaration) (λ name. refl)))
 
 piece-inside : (world : World) (k m : ℕ) (tables : List Table) (pieces : List (List Declared))
     → AreTables world k tables pieces
@@ -134,7 +188,7 @@ piece-inside world k (suc m) (t ∷ tables) (p ∷ pieces) are =
     subst (λ n. list_all (λ (one : Declared). one.entity.id.module == n) (slice_index_or pieces m []) ≡ true) e
     (piece-inside world (suc k) m tables pieces are.1)
 
-own-accepts : (m : ℕ) → Accepts (is_from m) m
+pub own-accepts : (m : ℕ) → Accepts (is_from m) m
 own-accepts m =
     let same : (m == m) ≡ true = eq-eqb m m refl in
     record {

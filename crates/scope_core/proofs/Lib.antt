@@ -33,3 +33,4 @@ mod CheckLaws
 mod OneLaws
 mod ClosingLaws
 mod NewLaws
+mod PlaceLaws

@@ -18,8 +18,9 @@ use Rattle.scope_core.specs.ScopeFaults.{IsLeast}
 use Rattle.scope_core.specs.OneScopeFault.{OneScopeFault}
 use Rattle.scope_core.specs.inside.Lessening.{least_onto}
 use Rattle.scope_core.proofs.LeastLaws.{least_onto-least, least_onto-none}
-use Rattle.scope_core.proofs.CheckLaws.{Accepts, module-pass}
+use Rattle.scope_core.proofs.CheckLaws.{Accepts, module-pass, fails-least}
 use Rattle.scope_core.proofs.MemberLaws.{both-all, all-at, any-at-false}
+use Rattle.scope_core.proofs.PlaceLaws.{fails-placed}
 
 abbrev is_told : ScopeFault → Bool
 is_told fault.OutOfMemory = false
@@ -125,6 +126,7 @@ one-fault names members = record {
   not_both = λ one none least. none-some one (ap (λ faults. slice_get faults least.place) (sym none) ∙ least.among);
   no_memory = λ least. false≢true
       (all-at is_told (scope_faults names members) least.place fault.OutOfMemory all least.among);
+  placed = λ one least. fails-placed names members one (fails-least (scope_faults names members) one least);
 }
   where
     all : list_all is_told (scope_faults names members) ≡ true

@@ -231,8 +231,8 @@ makes_more brings pieces rest piece table tables after written later reaches
           (subst (λ l. MadeSome world all rest (tables ++ table ∷ []) l) (sym told)
           (made_next world all piece rest table tables written reaches got.done got.left got.made got.are got.count
           got.inside got.whole
-          (subst (λ b. AreReaches (length tables) (slice_index_or b (length tables) []) reaches) (sym brought) reach) own
-          reach_is flags));
+          (subst (λ b. AreReaches (length tables) (slice_index_or b (length tables) []) reaches) (sym brought) reach)
+          own reach_is flags));
     }
 
 made_all : (world : World) (all done left : List (List Declared)) (tables : List Table) (written : List Written)
@@ -272,7 +272,7 @@ declared-inside m d (enumeration exported name a values b) =
     ∙ values-inside m d 1 exported name.text values
 declared-inside m d (annotation exported name parameters a b) = one-of m
 
-declared_from-inside : (m d : ℕ) (all : List Declaration) → list_all (is_of m) (declared_from m d all) ≡ true
+pub declared_from-inside : (m d : ℕ) (all : List Declaration) → list_all (is_of m) (declared_from m d all) ≡ true
 declared_from-inside m d [] = refl
 declared_from-inside m d (one ∷ others) =
     both-all (is_of m) (declared m d one) (declared_from m (suc d) others) (declared-inside m d one)

@@ -5,5 +5,6 @@ pub mod Visible
 pub mod Types
 pub mod Standing
 pub mod ScopeFaults
+pub mod Places
 pub mod OneScopeFault
 pub mod inside

@@ -3,7 +3,8 @@
 -- base, too. So both are worked out in rounds, each by the round before. Modules import each other in no circle, and
 -- the bases of a variant lead to one that is none, or in a circle to nothing. So after as many rounds as there are
 -- entities nothing changes.
-use Rattle.std.specs.Prelude.{ℕ, zero, suc, ◌==◌, ◌&&◌, not, Bool, true, false, List, [], ◌∷◌, ◌++◌, length}
+use Rattle.std.specs.Prelude.{ℕ, zero, suc, ◌==◌, ◌&&◌, not, Bool, true, false, List, [], ◌∷◌}
+use Rattle.std.specs.Prelude.{◌++◌, length}
 use Rattle.std.specs.Prelude.{filter, map}
 use Rattle.std.specs.List.{list_any, flat_map}
 use Rattle.std.specs.Str.{bytes_eq}

@@ -1,5 +1,6 @@
 -- The types of what an entity takes, by which overloads are told apart.
-use Rattle.std.specs.Prelude.{ℕ, ◌==◌, ◌&&◌, not, Bool, true, false, List, [], ◌∷◌, ◌++◌, Option, Some, None}
+use Rattle.std.specs.Prelude.{ℕ, ◌==◌, ◌&&◌, not, Bool, true, false, List, [], ◌∷◌, ◌++◌}
+use Rattle.std.specs.Prelude.{Option, Some, None}
 use Rattle.std.specs.Prelude.{map, length, codes, decimal, if◌then◌else◌}
 use Rattle.std.specs.List.{list_any, flat_map}
 use Rattle.type_rules.specs.declared.ty.Ty.{Ty}

@@ -11,6 +11,7 @@ ghost use Rattle.scope_core.specs.PreludeEntities.{prelude};
 ghost use Rattle.scope_core.specs.Visible.{World, look};
 ghost use Rattle.scope_core.specs.Standing.{world_of, standing};
 ghost use Rattle.scope_core.specs.ScopeFaults.{scope_faults, Fails};
+ghost use Rattle.scope_core.specs.Places.{IsAtName};
 ghost use Rattle.scope_core.specs.inside.Order.{AreWithin};
 ghost use Rattle.scope_core.specs.inside.Holding.{Hold};
 ghost use Rattle.scope_core.specs.inside.Reaching.{bringing_of, AreReaches};
@@ -55,6 +56,7 @@ impl Scopes {
             (standing set.now.names (members_of set.now))) }
         ensures sound { IfOk result (λ _. scope_faults set.now.names (members_of set.now) ≡ []) }
         ensures fault { IfErr result (Fails (scope_faults set.now.names (members_of set.now))) }
+        ensures placed { IfErr result (IsAtName set.now) }
     {
         let modules = set.modules.list();
         let names = copies(alloc, set.names.list())?;

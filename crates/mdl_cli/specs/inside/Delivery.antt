@@ -1,5 +1,6 @@
 -- What the code finds before it writes, and what it does with it.
-use Rattle.std.specs.Prelude.{◌≡◌, ◌≢◌, ◌⊎◌, ◌≤◌, ℕ, true, false, List, [], ◌∷◌, length, Result, Ok, Err}
+use Rattle.std.specs.Prelude.{◌≡◌, ◌≢◌, ◌⊎◌, ◌≤◌, ℕ, true, false, List, [], ◌∷◌}
+use Rattle.std.specs.Prelude.{length, Result, Ok, Err}
 use Rattle.std.specs.declared.vec.Vec.{Vec}
 use Rattle.std.specs.declared.alloc.Global.{Global}
 use Rattle.std.specs.declared.alloc.AllocError.{AllocError}
@@ -12,6 +13,10 @@ use Rattle.mdl_lexer.specs.declared.token.Kind.{Kind}
 use Rattle.mdl_lexer.specs.declared.token.LexFault.{LexFault}
 use Rattle.mdl_lexer.specs.declared.token.LexFault.TheVariants as lexical
 use Rattle.module_set.specs.declared.set.ModuleSet.{ModuleSet}
+use Rattle.module_set.specs.Members.{Member, members_of}
+use Rattle.scope_core.specs.declared.looked.ScopeFault.{ScopeFault}
+use Rattle.scope_core.specs.declared.looked.ScopeFault.TheVariants as scoping
+use Rattle.scope_core.specs.ScopeFaults.{scope_faults, fault_key}
 use Rattle.module_loader.specs.declared.fault.LoadFault.{LoadFault}
 use Rattle.module_loader.specs.declared.fault.LoadFault.TheVariants as fault
 use Rattle.module_loader.specs.Files.{most_module}
@@ -26,7 +31,8 @@ use Rattle.mdl_cli.specs.declared.answer.Answer.{Answer}
 use Rattle.mdl_cli.specs.declared.answer.Answer.TheVariants as answer
 use Rattle.mdl_cli.specs.FirstText.{AreFirstWords, IsFirstText}
 use Rattle.mdl_cli.specs.GraphText.{instance_text}
-use Rattle.mdl_cli.specs.Outcome.{AnswersRequest, RefusesRequest, material_name, ok_text}
+use Rattle.mdl_cli.specs.Outcome.{AnswersRequest, RefusesRequest, RefusesScopes, HasLineAt, names_in}
+use Rattle.mdl_cli.specs.Outcome.{material_name, ok_text}
 use Rattle.mdl_cli.specs.Lines.{usage_line, read_fault_line, write_fault_line, out_of_memory_line}
 use Rattle.mdl_cli.specs.Lines.{not_built_line, material_unknown_line, load_line}
 use Rattle.mdl_cli.specs.Headline.{AnswerText, RefusalLine}
@@ -130,11 +136,34 @@ FindsInWords whole material words answer.NotBuilt =
 FindsInWords whole material words answer.OutOfMemory = Unit {0}
 FindsInWords whole material words _ = ⊥
 
+-- what is found for a task in a set with whose names nothing is wrong
+abbrev pub FindsTask : Task → ModuleSet → Answer → Type 0
+FindsTask (task.Instance own material) set found =
+    FindsInTexts (material_name own material) material set.texts found
+FindsTask (task.Check modules) set found = IsText (ok_text (length set.names)) found
+
+-- the refusal for a fault at a byte of a module
+abbrev pub TellsAt : List Member → ScopeFault → ℕ → ℕ → Answer → Type 0
+TellsAt members fault m at (answer.Refused line) = HasLineAt members fault m at line.items
+TellsAt members fault m at answer.OutOfMemory = Unit {0}
+TellsAt members fault m at _ = ⊥
+
+-- the refusal for a fault of names
+abbrev pub TellsScope : List Member → ScopeFault → Answer → Type 0
+TellsScope members scoping.OutOfMemory found = found ≡ answer.OutOfMemory
+TellsScope members fault found = TellsAt members fault (fault_key fault).0 (fault_key fault).1 found
+
+-- the refusal for the first of them
+abbrev pub TellsScopes : List Member → Answer → Type 0
+TellsScopes members (answer.Refused line) = RefusesScopes members line.items
+TellsScopes members answer.OutOfMemory = Unit {0}
+TellsScopes members _ = ⊥
+
 -- what is found for a task in a set that is loaded
 abbrev pub FindsIn : Task → ModuleSet → Answer → Type 0
-FindsIn (task.Instance own material) set found =
-    FindsInTexts (material_name own material) material set.texts found
-FindsIn (task.Check modules) set found = IsText (ok_text (length set.names)) found
+FindsIn own set found =
+    ((scope_faults (names_in (members_of set)) (members_of set) ≡ []) × FindsTask own set found)
+    ⊎ TellsScopes (members_of set) found
 
 -- what is found in a text without words
 abbrev pub WithoutWords : LexFault → Answer → Type 0

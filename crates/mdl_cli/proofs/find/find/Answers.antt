@@ -2,8 +2,8 @@ use Rattle.std.proofs.Common.{◌∙◌, ap, map, string_bytes}
 use Rattle.mdl_cli.proofs.FindLaws.{short-texts, loaded_found}
 use Rattle.mdl_cli.proofs.find.find.Goals as goal
 
-pub find_in-requires : goal.find_in-requires
-find_in-requires g c =
+pub find_in-requires-clause-short : goal.find_in-requires-clause-short
+find_in-requires-clause-short g c =
     short-texts (map string_bytes c.deref.result.now) c.deref-2.result.now (g.S.Source.state c.args.source.now)
     c.in-Ok-load.set c.in-Ok-load.ensures.loaded
 

@@ -13,7 +13,9 @@ use Rattle.scope_core.specs.inside.Scoping.{AreMade, brought_all}
 use Rattle.scope_core.specs.inside.Checking.{faults_in}
 use Rattle.scope_core.proofs.SetLaws.{brings-are, links-within}
 use Rattle.scope_core.proofs.NewLaws.{handed-on, held_all, links-read, modules-few, opens-stand, all-settled-of}
+use Rattle.scope_core.specs.Places.{IsAtName}
 use Rattle.scope_core.proofs.NewLaws.{faults-are}
+use Rattle.scope_core.proofs.PlaceLaws.{fails-placed}
 use Rattle.scope_core.proofs.scopes.Scopes.new.Goals as goal
 
 pub settle-requires-clause-within : goal.settle-requires-clause-within
@@ -69,6 +71,33 @@ returns-in_err-check-clause-fault c =
     (c.in_err-check.ensures.fault (world_of set.names (members_of set)) (pieces_of (members_of set)) whole.2 whole.1
     (subst (λ modules. length modules < length (pieces_of (members_of set))) (sym c.list-modules.ensures)
     (modules-few set c.requires))))
+
+pub returns-in_err-check-clause-placed : goal.returns-in_err-check-clause-placed
+returns-in_err-check-clause-placed c =
+    let set = c.args.set.now in
+    let whole = all-settled-of set c.in_ok-brought.brought.items c.in_ok-pieces.pieces.items c.in_ok-tables.tables.items
+    (record { names = c.deref-3.result; written = c.deref-4.result }) c.in_ok-settled.settled
+    c.in_ok-names.names.items c.list-modules.result.now c.requires (c.in_ok-names.ensures ∙ c.list.ensures)
+    c.list-modules.ensures
+    (c.in_ok-brought.ensures ∙ ap (λ names. brought_all (firsts same_name names) names c.list-modules.result.now)
+    c.deref.ensures.value)
+    c.in_ok-pieces.ensures
+    (λ world all brought are inside.
+    subst (AreMade world all c.in_ok-tables.tables.items) (sym c.deref-4.ensures.value)
+    (c.in_ok-tables.ensures world all (brought ∙ sym (ap held_all c.deref-2.ensures.value)) are inside))
+    c.deref-3.ensures.value
+    (λ world pieces describes hold none brought long.
+    c.in_ok-settled.ensures world pieces describes hold none
+    (brought ∙ sym (ap held_all c.deref-5.ensures.value)) long) in
+    handed-on (IsAtName set) c.from_residual-in_err-check.result
+    c.in_err-check.field-0.0 c.from_residual-in_err-check.ensures.1
+    (fails-placed set.names (members_of set) c.in_err-check.field-0.0
+    (subst (λ faults. Fails faults c.in_err-check.field-0.0)
+    ((λ k. faults_in (world_of set.names (members_of set)) (pieces_of (members_of set))
+    ((ap held_all c.deref-6.ensures.value ∙ whole.0) k) 0 (c.list-modules.ensures k)) ∙ faults-are set c.requires)
+    (c.in_err-check.ensures.fault (world_of set.names (members_of set)) (pieces_of (members_of set)) whole.2 whole.1
+    (subst (λ modules. length modules < length (pieces_of (members_of set))) (sym c.list-modules.ensures)
+    (modules-few set c.requires)))))
 
 pub returns-clause-holds : goal.returns-clause-holds
 returns-clause-holds c =
