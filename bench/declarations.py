@@ -14,6 +14,7 @@ from packages import ok, refused, show_all
 SIZES = (12500, 25000, 50000, 100000)
 PARTS = 4
 OTHERS = (250, 500, 1000, 2000)
+FEWER = (1250, 2500, 5000, 10000)
 
 
 def put(root, name, lines):
@@ -85,15 +86,6 @@ def listed(root, count):
     return [root, "::m"], ok(PARTS + 1)
 
 
-def from_many(root, count):
-    """A type of each of the modules that one brings whole is used there."""
-    for other in range(count):
-        put(root, f"q{other}", [f"export struct t{other}{{int a;}};"])
-    put(root, "m", [*(f"using ::q{other} import *;" for other in range(count)),
-                    *(f"int f(t{other} a)=0;" for other in range(count))])
-    return [root, "::m"], ok(count + 1)
-
-
 def based_on_overloads(root, count):
     """Variants whose base's name has as many overloads. So none has a base."""
     half = count // 2
@@ -108,6 +100,22 @@ def imported_overloads(root, count):
     return [root, "::m"], ok(2)
 
 
+def from_many(root, count):
+    """A type of each of the modules that one brings whole is used there."""
+    for other in range(count):
+        put(root, f"q{other}", [f"export struct t{other}{{int a;}};"])
+    put(root, "m", [*(f"using ::q{other} import *;" for other in range(count)),
+                    *(f"int f(t{other} a)=0;" for other in range(count))])
+    return [root, "::m"], ok(count + 1)
+
+
+def named_as_overloads(root, count):
+    """Parameters whose type has the name of as many functions. So it is none, which is no fault yet."""
+    half = count // 2
+    return alone(root, [*(f"int f(int[{own + 1}] a)=0;" for own in range(half)),
+                        *(f"int g{own}(f a)=0;" for own in range(half))])
+
+
 SHAPES = (
     ("functions", functions, SIZES),
     ("overloads", overloads, SIZES),
@@ -119,9 +127,10 @@ SHAPES = (
     ("fields", fields, SIZES),
     ("the last one repeated", repeated, SIZES),
     ("imported one by one", listed, SIZES),
-    ("types of many modules", from_many, OTHERS),
     ("bases of one name", based_on_overloads, SIZES),
     ("one name, imported", imported_overloads, SIZES),
+    ("types of many modules", from_many, OTHERS),
+    ("overloads as types", named_as_overloads, FEWER),
 )
 
 

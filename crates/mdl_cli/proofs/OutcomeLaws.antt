@@ -12,8 +12,8 @@ use Rattle.mdl_lexer.specs.Lexes.{HasTokens}
 use Rattle.mdl_lexer.proofs.LexLaws.{lexing_is_one}
 use Rattle.module_set.specs.declared.module_name.ModuleName.{ModuleName}
 use Rattle.module_set.specs.Members.{Member}
-use Rattle.scope_core.specs.declared.looked.ScopeFault.{ScopeFault}
-use Rattle.scope_core.specs.declared.looked.ScopeFault.TheVariants as scoping
+use Rattle.scope_core.specs.declared.fault.ScopeFault.{ScopeFault}
+use Rattle.scope_core.specs.declared.fault.ScopeFault.TheVariants as scoping
 use Rattle.scope_core.specs.ScopeFaults.{scope_faults, fault_key, IsLeast}
 use Rattle.scope_core.specs.Places.{HasPlaces, HasPlace}
 use Rattle.scope_core.specs.OneScopeFault.{OneScopeFault}

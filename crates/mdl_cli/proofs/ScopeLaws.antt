@@ -18,8 +18,8 @@ use Rattle.module_set.specs.declared.module_name.ModuleName.{ModuleName}
 use Rattle.module_set.specs.declared.set.ModuleSet.{ModuleSet}
 use Rattle.module_set.specs.Members.{Member, members_from, members_of}
 use Rattle.module_set.specs.ModuleSets.{IsRead, IsModuleSet}
-use Rattle.scope_core.specs.declared.looked.ScopeFault.{ScopeFault}
-use Rattle.scope_core.specs.declared.looked.ScopeFault.TheVariants as scoping
+use Rattle.scope_core.specs.declared.fault.ScopeFault.{ScopeFault}
+use Rattle.scope_core.specs.declared.fault.ScopeFault.TheVariants as scoping
 use Rattle.scope_core.specs.ScopeFaults.{scope_faults, fault_key, IsLeast, Fails}
 use Rattle.scope_core.specs.Places.{is_place_of, HasPlace}
 use Rattle.module_loader.specs.Files.{most_module}

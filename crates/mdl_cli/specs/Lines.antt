@@ -8,8 +8,8 @@ use Rattle.expression_grammar.specs.declared.fault.ParseFault.{ParseFault}
 use Rattle.expression_grammar.specs.declared.fault.ParseFault.TheVariants as grammar
 use Rattle.module_set.specs.declared.module_name.ModuleName.{ModuleName}
 use Rattle.module_set.specs.Names.{written_name}
-use Rattle.scope_core.specs.declared.looked.ScopeFault.{ScopeFault}
-use Rattle.scope_core.specs.declared.looked.ScopeFault.TheVariants as scoping
+use Rattle.scope_core.specs.declared.fault.ScopeFault.{ScopeFault}
+use Rattle.scope_core.specs.declared.fault.ScopeFault.TheVariants as scoping
 use Rattle.module_loader.specs.declared.fault.LoadFault.{LoadFault}
 use Rattle.module_loader.specs.declared.fault.LoadFault.TheVariants as fault
 

@@ -6,7 +6,7 @@ use Rattle.type_rules.specs.Terms.{Term}
 use Rattle.module_set.specs.declared.module_name.ModuleName.{ModuleName}
 use Rattle.module_set.specs.Names.{named, written_name}
 use Rattle.module_set.specs.Members.{Member}
-use Rattle.scope_core.specs.declared.looked.ScopeFault.{ScopeFault}
+use Rattle.scope_core.specs.declared.fault.ScopeFault.{ScopeFault}
 use Rattle.scope_core.specs.ScopeFaults.{scope_faults, fault_key, IsLeast}
 use Rattle.module_loader.specs.declared.fault.LoadFault.{LoadFault}
 use Rattle.module_loader.specs.TextFaults.{place_in}

@@ -312,8 +312,18 @@ fn packages(rt: HostRuntime) -> Result<(), Fail> {
 
 // The line of a refusal of a module's text.
 fn refusal(rt: &(impl Abort + Threads + Sync), alloc: Global, text: &str) -> Result<String, Fail> {
+    let files = file(alloc, text)?;
+    refusal_of(rt, alloc, files)
+}
+
+// The line of a refusal of these files.
+fn refusal_of(
+    rt: &(impl Abort + Threads + Sync),
+    alloc: Global,
+    files: Vec<(String, Vec<u8>)>,
+) -> Result<String, Fail> {
     let words = words(alloc, &["instance", "r", "::m::m"])?;
-    let mut source = SteadySource::new(file(alloc, text)?);
+    let mut source = SteadySource::new(files);
     let mut out = SteadySink::new(alloc, 4096)?;
     let mut diag = SteadySink::new(alloc, 64)?;
     let got = run(rt, alloc, &words, &mut source, &mut out, &mut diag, &NoGate);
@@ -467,6 +477,39 @@ fn long_files(rt: HostRuntime) -> Result<(), Fail> {
         assert_eq!(rt; got, status);
         assert_eq!(rt; diag.taken(), line.as_bytes());
     }
+    Ok(())
+}
+
+#[test]
+fn bytes_that_are_no_text(rt: HostRuntime) -> Result<(), Fail> {
+    let alloc = rt.alloc();
+    let path = String::from_str(alloc, "r/m.mdl")?;
+    let bytes = Vec::from_slice(alloc, b"mdl 1.6;\n \xff")?;
+    let mut files = Vec::new(alloc);
+    files.push((path, bytes))?;
+    let line = refusal_of(&rt, alloc, files)?;
+    assert_eq!(rt; line.as_str(), "error 14 NotUtf8 ::m 2:0\n");
+    Ok(())
+}
+
+// The modules that are imported, and the one that imports them, are one more than may be loaded.
+#[test]
+fn too_many_modules(rt: HostRuntime) -> Result<(), Fail> {
+    let alloc = rt.alloc();
+    let mut text = String::from_str(alloc, "mdl 1.6;\n")?;
+    let mut files = Vec::new(alloc);
+    for number in 0..4096 {
+        let import = format!(in alloc; "import ::n{}::*;\n", number)?;
+        text.push_str(&import)?;
+        let path = format!(in alloc; "r/n{}.mdl", number)?;
+        let bytes = Vec::from_slice(alloc, b"mdl 1.6;\n")?;
+        files.push((path, bytes))?;
+    }
+    let path = String::from_str(alloc, "r/m.mdl")?;
+    let bytes = Vec::from_slice(alloc, text.as_bytes())?;
+    files.push((path, bytes))?;
+    let line = refusal_of(&rt, alloc, files)?;
+    assert_eq!(rt; line.as_str(), "error 12 TooMany\n");
     Ok(())
 }
 

@@ -15,26 +15,26 @@ use Rattle.std.proofs.lemmas.Option.{same_Some, none-some, slice_get-map}
 use Rattle.std.proofs.Math.Bool.{or-true, not-not}
 use Rattle.type_rules.specs.declared.ty.Ty.{Ty}
 use Rattle.type_rules.specs.Same.{same_type}
-use Rattle.scope_core.specs.declared.tables.Table.{Table}
-use Rattle.scope_core.specs.declared.tables.Place.{Place}
-use Rattle.scope_core.specs.declared.declared.Takes as held_takes
-use Rattle.scope_core.specs.declared.declared.Written.{Written}
-use Rattle.scope_core.specs.Entities.{Declared, Takes}
-use Rattle.scope_core.specs.Visible.{World}
-use Rattle.scope_core.specs.Types.{is_callable, has_deferred, based_on}
+use Rattle.scope_tables.specs.declared.tables.Table.{Table}
+use Rattle.scope_tables.specs.declared.tables.Place.{Place}
+use Rattle.scope_tables.specs.declared.declared.Takes as held_takes
+use Rattle.scope_tables.specs.declared.declared.Written.{Written}
+use Rattle.scope_tables.specs.Entities.{Declared, Takes}
+use Rattle.scope_tables.specs.Visible.{World}
+use Rattle.scope_tables.specs.Types.{is_callable, has_deferred, based_on}
 use Rattle.scope_core.specs.Standing.{is_prototype, is_definition, share_name, defines, stands, types_after}
-use Rattle.scope_core.specs.inside.Finding.{entity_at}
+use Rattle.scope_tables.specs.inside.Finding.{entity_at}
 use Rattle.scope_core.specs.inside.Holding.{Hold}
 use Rattle.scope_core.specs.inside.Settling.{is_prototype_of, is_own_prototype, others_of, only_place, likely_base}
 use Rattle.scope_core.specs.inside.Settling.{taken_at, same_number, same_place, is_definition_of, defines_at}
 use Rattle.scope_core.specs.inside.Settling.{stands_alone, takes_in, takes_at, defers, is_base_of, is_base_at}
-use Rattle.scope_core.specs.inside.Pieces.{takes_of}
+use Rattle.scope_tables.specs.inside.Pieces.{takes_of}
 use Rattle.scope_core.specs.inside.Scoping.{AreWritten}
 use Rattle.scope_core.specs.inside.Rounds.{declared_in, declared_at, entities_in, settled_count}
 use Rattle.scope_core.specs.inside.Rounds.{is_known_number, is_settled, AreKnown, is_out, FindsIn}
 use Rattle.scope_core.proofs.FoundIsLaws.{entity-is}
 use Rattle.scope_core.proofs.SameLaws.{types-decide}
-use Rattle.scope_core.proofs.MemberLaws.{any-of, any-at, filter-of, filter-has, heads}
+use Rattle.scope_tables.proofs.MemberLaws.{any-of, any-at, filter-of, filter-has, heads}
 use Rattle.scope_core.proofs.VisibleLaws.{module-at, definition-stands}
 
 -- a prototype of a module

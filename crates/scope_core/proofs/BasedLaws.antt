@@ -14,32 +14,32 @@ use Rattle.mdl_syntax.specs.declared.names.Name.{Name}
 use Rattle.mdl_syntax.specs.declared.names.NameForm.{NameForm}
 use Rattle.mdl_syntax.specs.declared.names.NameForm.TheVariants as form
 use Rattle.module_set.specs.declared.module_name.ModuleName.{ModuleName}
-use Rattle.scope_core.specs.declared.entity.Entity.{Entity}
-use Rattle.scope_core.specs.declared.tables.Table.{Table}
-use Rattle.scope_core.specs.declared.tables.Place.{Place}
-use Rattle.scope_core.specs.declared.declared.Takes as held_takes
-use Rattle.scope_core.specs.declared.declared.Written.{Written}
-use Rattle.scope_core.specs.declared.declared.Takes.TheVariants as held
+use Rattle.scope_tables.specs.declared.entity.Entity.{Entity}
+use Rattle.scope_tables.specs.declared.tables.Table.{Table}
+use Rattle.scope_tables.specs.declared.tables.Place.{Place}
+use Rattle.scope_tables.specs.declared.declared.Takes as held_takes
+use Rattle.scope_tables.specs.declared.declared.Written.{Written}
+use Rattle.scope_tables.specs.declared.declared.Takes.TheVariants as held
 use Rattle.scope_core.specs.declared.settled.Settled.{Settled}
 use Rattle.scope_core.specs.declared.settled.Scene.{Scene}
-use Rattle.scope_core.specs.Entities.{Declared, based}
-use Rattle.scope_core.specs.Visible.{World, those, or_else, is_near, is_given, is_far, is_within, uses}
-use Rattle.scope_core.specs.Visible.{brings, fits, name_at, last_part, front_parts, texts, word_text, found}
-use Rattle.scope_core.specs.Visible.{found_near, found_far, found_parts}
-use Rattle.scope_core.specs.Types.{based_on, types_in}
+use Rattle.scope_tables.specs.Entities.{Declared, based}
+use Rattle.scope_tables.specs.Visible.{World, those, or_else, is_near, is_given, is_far, is_within, uses}
+use Rattle.scope_tables.specs.Visible.{brings, fits, name_at, last_part, front_parts, texts, word_text, found}
+use Rattle.scope_tables.specs.Visible.{found_near, found_far, found_parts}
+use Rattle.scope_tables.specs.Types.{based_on, types_in}
 use Rattle.scope_core.specs.Standing.{is_prototype, types_after, standing_after}
-use Rattle.scope_core.specs.inside.Finding.{placed, entity_at, found_places}
+use Rattle.scope_tables.specs.inside.Finding.{placed, entity_at, found_places}
 use Rattle.scope_core.specs.inside.Holding.{open_pieces}
 use Rattle.scope_core.specs.inside.Settling.{is_prototype_of, is_own_prototype, others_of, likely_base, taken_at}
 use Rattle.scope_core.specs.inside.Settling.{stands_alone, takes_at, next_of, is_base_at, number_on, base_number}
-use Rattle.scope_core.specs.inside.Pieces.{takes_of}
+use Rattle.scope_tables.specs.inside.Pieces.{takes_of}
 use Rattle.scope_core.specs.inside.Rounds.{declared_at, entities_in, settled_count, is_settled, Settles}
 use Rattle.scope_core.specs.inside.Rounds.{Describes, CanSettle, FindsIn, is_based, WrittenAreSettled, Stays}
 use Rattle.scope_core.specs.inside.Rounds.{SettlesBy, SettlesBased}
 use Rattle.scope_core.proofs.VisibleLaws.{finds-in}
 use Rattle.scope_core.proofs.BaseLaws.{behind, module-is, own-is, no-base, known-number}
 use Rattle.scope_core.proofs.BaseLaws.{only-is, takes-is, on-base, AreAlike, Knows}
-use Rattle.scope_core.proofs.MemberLaws.{filter-of, heads}
+use Rattle.scope_tables.proofs.MemberLaws.{filter-of, heads}
 
 -- the names of what is found
 those-alike : (test : Entity → Bool) (name : List ℕ) (entities : List Declared)

@@ -11,13 +11,13 @@ use Rattle.mdl_syntax.specs.declared.modules.Module.{Module}
 use Rattle.mdl_syntax.specs.Modules.{module_of, Declaration, Parameter}
 use Rattle.type_rules.specs.declared.ty.Ty.{Ty}
 use Rattle.case_table.specs.ListLaws.{slice_get-append}
-use Rattle.scope_core.specs.declared.looked.ScopeFault.{ScopeFault}
-use Rattle.scope_core.specs.declared.looked.ScopeFault.TheVariants as fault
-use Rattle.scope_core.specs.declared.tables.Table.{Table}
-use Rattle.scope_core.specs.declared.declared.Written.{Written}
-use Rattle.scope_core.specs.Entities.{Declared}
-use Rattle.scope_core.specs.Brought.{Bringing}
-use Rattle.scope_core.specs.Visible.{World}
+use Rattle.scope_core.specs.declared.fault.ScopeFault.{ScopeFault}
+use Rattle.scope_core.specs.declared.fault.ScopeFault.TheVariants as fault
+use Rattle.scope_tables.specs.declared.tables.Table.{Table}
+use Rattle.scope_tables.specs.declared.declared.Written.{Written}
+use Rattle.scope_tables.specs.Entities.{Declared}
+use Rattle.scope_tables.specs.Brought.{Bringing}
+use Rattle.scope_tables.specs.Visible.{World}
 use Rattle.scope_core.specs.ScopeFaults.{twice, unknown, not_exported, clash, twice_among, twice_listed}
 use Rattle.scope_core.specs.ScopeFaults.{parameter_faults, parameters_of, missing_name, clash_of, name_faults}
 use Rattle.scope_core.specs.ScopeFaults.{import_faults, listed_by, of_name, exported_of, fault_key, is_less}
@@ -29,7 +29,7 @@ use Rattle.scope_core.specs.inside.Checking.{faults_of, faults_in, places_in}
 use Rattle.scope_core.specs.inside.Scoping.{AreWritten}
 use Rattle.scope_core.specs.inside.Lessening.{least_onto}
 use Rattle.scope_core.proofs.LeastLaws.{least_onto-least, least_onto-none}
-use Rattle.scope_core.proofs.MemberLaws.{both-all, any-both, all-at}
+use Rattle.scope_tables.proofs.MemberLaws.{both-all, any-both, all-at}
 
 abbrev pub is_from : ℕ → ScopeFault → Bool
 is_from m fault = (fault_key fault).0 == m

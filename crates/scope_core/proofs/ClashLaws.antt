@@ -10,25 +10,26 @@ use Rattle.std.proofs.lemmas.List.{map-append, append-nil}
 use Rattle.std.proofs.lemmas.List.Folds.{list_any-append}
 use Rattle.mdl_syntax.specs.declared.names.Ident.{Ident}
 use Rattle.scope_core.specs.declared.faults.Earlier.{Earlier}
-use Rattle.scope_core.specs.declared.kinds.Kinds.{Kinds}
-use Rattle.scope_core.specs.declared.looked.ScopeFault.{ScopeFault}
+use Rattle.scope_tables.specs.declared.kinds.Kinds.{Kinds}
+use Rattle.scope_core.specs.declared.fault.ScopeFault.{ScopeFault}
 use Rattle.scope_core.specs.declared.settled.Settled.{Settled}
-use Rattle.scope_core.specs.declared.tables.Table.{Table}
-use Rattle.scope_core.specs.Entities.{Declared}
-use Rattle.scope_core.specs.Brought.{Bringing, bringing}
-use Rattle.scope_core.specs.Visible.{World}
+use Rattle.scope_tables.specs.declared.tables.Table.{Table}
+use Rattle.scope_tables.specs.Entities.{Declared}
+use Rattle.scope_tables.specs.Brought.{Bringing, bringing}
+use Rattle.scope_tables.specs.Visible.{World}
 use Rattle.scope_core.specs.ScopeFaults.{of_name, exported_of, missing_name, listed_by, listed_before, clashes}
 use Rattle.scope_core.specs.ScopeFaults.{clash, clash_of, name_faults}
-use Rattle.scope_core.specs.inside.Kinds.{no_kinds, both, kinds_among, has_none, go_together}
+use Rattle.scope_tables.specs.inside.Kinds.{no_kinds, both, kinds_among, has_none, go_together}
 use Rattle.scope_core.specs.inside.Lessening.{lesser, least_onto}
 use Rattle.scope_core.specs.inside.Noting.{Listings, listed_under, joined, NotesListed, NotesUsed, is_elsewhere}
 use Rattle.scope_core.specs.inside.Noting.{kinds_listed, is_clash}
-use Rattle.scope_core.specs.inside.Noting.{exported_kinds, kinds_before, Remembers, partly, missing_by, kinds_under}
-use Rattle.scope_core.specs.inside.Owning.{same_text}
+use Rattle.scope_core.specs.inside.Noting.{exported_kinds, kinds_before, Remembers, partly, missing_by}
+use Rattle.scope_core.specs.inside.Sums.{kinds_under}
+use Rattle.scope_tables.specs.inside.Owning.{same_text}
 use Rattle.scope_core.specs.inside.Rounds.{AreSettled, last_standing}
-use Rattle.scope_core.proofs.KindLaws.{names_of, overloads-are}
+use Rattle.scope_tables.proofs.KindLaws.{names_of, overloads-are}
 use Rattle.scope_core.proofs.ListedLaws.{least_onto-append}
-use Rattle.scope_core.proofs.OwnLaws.{same_text-tells}
+use Rattle.scope_tables.proofs.OwnLaws.{same_text-tells}
 use Rattle.scope_core.proofs.TwiceLaws.{some-sort, lessened}
 use Rattle.scope_core.proofs.UnderLaws.{both-assoc, both-none, among-append, under-is}
 

@@ -12,29 +12,29 @@ use Rattle.std.proofs.lemmas.Option.{same_Some, none-some, slice_get_within, sli
 use Rattle.std.proofs.Math.Bool.{not-not}
 use Rattle.case_table.specs.Lists.{firsts}
 use Rattle.case_table.specs.ListLaws.{slice_get-once}
-use Rattle.scope_core.specs.declared.declared.Takes as held_takes
-use Rattle.scope_core.specs.declared.declared.Written.{Written}
+use Rattle.scope_tables.specs.declared.declared.Takes as held_takes
+use Rattle.scope_tables.specs.declared.declared.Written.{Written}
 use Rattle.scope_core.specs.declared.settled.Settled.{Settled}
 use Rattle.scope_core.specs.declared.settled.Scene.{Scene}
-use Rattle.scope_core.specs.declared.tables.Table.{Table}
-use Rattle.scope_core.specs.declared.tables.Place.{Place}
-use Rattle.scope_core.specs.Entities.{Declared, Takes}
-use Rattle.scope_core.specs.Brought.{Bringing}
-use Rattle.scope_core.specs.Visible.{World, brought_at}
-use Rattle.scope_core.specs.inside.Order.{is_among, are_below, IsOrder}
-use Rattle.scope_core.specs.inside.Finding.{placed}
+use Rattle.scope_tables.specs.declared.tables.Table.{Table}
+use Rattle.scope_tables.specs.declared.tables.Place.{Place}
+use Rattle.scope_tables.specs.Entities.{Declared, Takes}
+use Rattle.scope_tables.specs.Brought.{Bringing}
+use Rattle.scope_tables.specs.Visible.{World, brought_at}
+use Rattle.scope_tables.specs.inside.Order.{is_among, are_below, IsOrder}
+use Rattle.scope_tables.specs.inside.Finding.{placed}
 use Rattle.scope_core.specs.inside.Holding.{Hold}
-use Rattle.scope_core.specs.inside.Pieces.{takes_of}
-use Rattle.scope_core.specs.inside.Reaching.{froms}
+use Rattle.scope_tables.specs.inside.Pieces.{takes_of}
+use Rattle.scope_tables.specs.inside.Reaching.{froms}
 use Rattle.scope_core.specs.inside.Scoping.{AreWritten, NoneHidden}
 use Rattle.scope_core.specs.inside.Settling.{taken_at}
 use Rattle.scope_core.specs.inside.Rounds.{declared_in, declared_at, entities_in, settled_in, settled_count}
 use Rattle.scope_core.specs.inside.Rounds.{is_settled, is_known_number, is_based, Settles, Describes, IsReady}
-use Rattle.scope_core.specs.inside.Rounds.{Stays, AreSettled, last_types, WrittenAreSettled, BegunAreSettled}
+use Rattle.scope_core.specs.inside.Rounds.{Stays, AreClosed, last_types, WrittenAreSettled, BegunAreSettled}
 use Rattle.scope_core.specs.inside.Rounds.{SettlesWritten, SettlesVariant, SettlesListed, SettlesVariants, Closes}
 use Rattle.scope_core.specs.inside.Rounds.{SettlesModule}
 use Rattle.scope_core.specs.inside.Closing.{VariantsSome, OrderSome}
-use Rattle.scope_core.proofs.MemberLaws.{numbers, there-is, all-at}
+use Rattle.scope_tables.proofs.MemberLaws.{numbers, there-is, all-at}
 use Rattle.scope_core.proofs.VisibleLaws.{tables-long}
 use Rattle.scope_core.proofs.WalkLaws.{still-settled}
 
@@ -117,6 +117,7 @@ pub variants-start : (scene : Scene) (m count : ℕ) (old : Settled) (begun : Li
     → VariantsSome scene m count 0 begun old old
 variants-start scene m count old begun is = record {
   long = ap length is ∙ length-replicate count false;
+  tables = refl;
   settles = λ world pieces closed piece describes settles ready at long written. (
     settles,
     written,
@@ -131,6 +132,7 @@ pub variants-more : (scene : Scene) (m count i : ℕ) (begun after_begun : List 
     → VariantsSome scene m count (i + 1) after_begun old after
 variants-more scene m count i begun after_begun old now after within before step = record {
   long = step.long ∙ before.long;
+  tables = step.stays.tables ∙ before.tables;
   settles = settles;
 }
   where
@@ -363,7 +365,7 @@ declared-within (p ∷ pieces) (suc m) i one at = omega (arith, declared-within 
 -- where all modules are closed, all is settled
 pub all-settled : (world : World) (pieces : List (List Declared)) (closed : List ℕ) (settled : Settled)
     → Settles world pieces closed settled → length pieces ≡ suc (length world.names)
-    → ((m : ℕ) → m ≤ length world.names → is_among closed m ≡ true) → AreSettled world pieces settled
+    → ((m : ℕ) → m ≤ length world.names → is_among closed m ≡ true) → AreClosed world pieces settled
 all-settled world pieces closed settled settles count all = record {
   hold = settles.hold;
   apart = settles.known.apart;
@@ -398,7 +400,7 @@ all-settled world pieces closed settled settles count all = record {
 pub order-end : (scene : Scene) (order : List ℕ) (i : ℕ) (first now : Settled) → length order ≤ i
     → OrderSome scene order i first now → (world : World) (pieces : List (List Declared))
     → Describes world pieces scene → Settles world pieces [] first → length world.brings ≡ length world.names
-    → IsOrder (map froms world.brings) order → AreSettled world pieces now
+    → IsOrder (map froms world.brings) order → AreClosed world pieces now
 order-end scene order i first now past some world pieces describes settles long ordered =
     all-settled world pieces (length world.names ∷ take i order) now
     (some.settles world pieces describes settles long ordered) count all

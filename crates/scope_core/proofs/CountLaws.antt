@@ -9,17 +9,17 @@ use Rattle.std.proofs.lemmas.List.{length-set, get_or-set_same, get_or-set_other
 use Rattle.std.proofs.lemmas.Option.{same_Some, none-some, slice_get_within, slice_get-get_or, get_or_from_slice_get}
 use Rattle.type_rules.specs.declared.ty.Ty.{Ty}
 use Rattle.scope_core.specs.declared.settled.Settled.{Settled}
-use Rattle.scope_core.specs.declared.tables.Place.{Place}
-use Rattle.scope_core.specs.declared.tables.Table.{Table}
-use Rattle.scope_core.specs.Entities.{Declared}
-use Rattle.scope_core.specs.Visible.{World}
+use Rattle.scope_tables.specs.declared.tables.Place.{Place}
+use Rattle.scope_tables.specs.declared.tables.Table.{Table}
+use Rattle.scope_tables.specs.Entities.{Declared}
+use Rattle.scope_tables.specs.Visible.{World}
 use Rattle.scope_core.specs.Standing.{types_after}
-use Rattle.scope_core.specs.inside.Finding.{placed}
+use Rattle.scope_tables.specs.inside.Finding.{placed}
 use Rattle.scope_core.specs.inside.Holding.{Hold}
 use Rattle.scope_core.specs.inside.Settling.{taken_in, taken_at}
 use Rattle.scope_core.specs.inside.Rounds.{declared_in, declared_at, entities_in, settled_in, settled_count}
 use Rattle.scope_core.specs.inside.Rounds.{is_known_number, is_settled, AreKnown, IsClosed, Settles, SettlesBy}
-use Rattle.scope_core.proofs.MemberLaws.{get-set_same, get-set_other}
+use Rattle.scope_tables.proofs.MemberLaws.{get-set_same, get-set_other}
 
 abbrev pub Rows : Type 0
 Rows = List (Vec (Option ℕ) Global)

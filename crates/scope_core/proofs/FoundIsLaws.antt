@@ -12,23 +12,23 @@ use Rattle.std.proofs.lemmas.Simd.{map-map}
 use Rattle.mdl_syntax.specs.declared.names.NameForm.{NameForm}
 use Rattle.mdl_syntax.specs.declared.names.NameForm.TheVariants as form
 use Rattle.module_set.specs.declared.module_name.ModuleName.{ModuleName}
-use Rattle.scope_core.specs.declared.entity.Entity.{Entity}
-use Rattle.scope_core.specs.declared.reach.Reach.{Reach}
-use Rattle.scope_core.specs.declared.tables.Table.{Table}
-use Rattle.scope_core.specs.declared.tables.Place.{Place}
-use Rattle.scope_core.specs.Entities.{Declared}
-use Rattle.scope_core.specs.Visible.{World, brought_at, name_at, no_name, brings, uses, is_within, is_near, is_far}
-use Rattle.scope_core.specs.Visible.{is_given, fits, those, found, found_parts, found_near, found_far, or_else}
-use Rattle.scope_core.specs.Visible.{texts, last_part, front_parts, word_text}
-use Rattle.scope_core.specs.inside.Reaching.{AreReaches}
-use Rattle.scope_core.specs.inside.Finding.{entity_of, entity_at, seen_in, reaches_of, near_places, far_in}
-use Rattle.scope_core.specs.inside.Finding.{far_places, fits_name, first_of, parts_places, found_places}
+use Rattle.scope_tables.specs.declared.entity.Entity.{Entity}
+use Rattle.scope_tables.specs.declared.reach.Reach.{Reach}
+use Rattle.scope_tables.specs.declared.tables.Table.{Table}
+use Rattle.scope_tables.specs.declared.tables.Place.{Place}
+use Rattle.scope_tables.specs.Entities.{Declared}
+use Rattle.scope_tables.specs.Visible.{World, brought_at, name_at, no_name, brings, uses, is_within, is_near, is_far}
+use Rattle.scope_tables.specs.Visible.{is_given, fits, those, found, found_parts, found_near, found_far, or_else}
+use Rattle.scope_tables.specs.Visible.{texts, last_part, front_parts, word_text}
+use Rattle.scope_tables.specs.inside.Reaching.{AreReaches}
+use Rattle.scope_tables.specs.inside.Finding.{entity_of, entity_at, seen_in, reaches_of, near_places, far_in}
+use Rattle.scope_tables.specs.inside.Finding.{far_places, fits_name, first_of, parts_places, found_places}
 use Rattle.scope_core.specs.inside.Rounds.{declared_in, declared_at}
 use Rattle.scope_core.specs.inside.Holding.{open_pieces, IsTable, AreTables, Hold}
 use Rattle.scope_core.proofs.HoldLaws.{is_seen, see_all, assembled}
 use Rattle.scope_core.proofs.WithinLaws.{has-within, are-ordered, ordered-kept, agree-kept, kept-all}
 use Rattle.scope_core.proofs.WithinLaws.{none-within, uses-from, brings-from}
-use Rattle.scope_core.proofs.MemberLaws.{nil-cons, there-is, all-at}
+use Rattle.scope_tables.proofs.MemberLaws.{nil-cons, there-is, all-at}
 
 -- the tables at an index
 pub table-at : (world : World) (k : ℕ) (tables : List Table) (pieces : List (List Declared)) (m : ℕ) (table : Table)

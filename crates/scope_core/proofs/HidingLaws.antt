@@ -17,28 +17,28 @@ use Rattle.case_table.specs.Lists.{firsts}
 use Rattle.case_table.specs.ListLaws.{list_any-slice_get}
 use Rattle.type_rules.specs.declared.ty.Ty.{Ty}
 use Rattle.type_rules.specs.Same.{same_type}
-use Rattle.scope_core.specs.declared.entity.Entity.{Entity}
-use Rattle.scope_core.specs.declared.entity.Sort.{Sort}
-use Rattle.scope_core.specs.declared.reach.Reach.{Reach}
+use Rattle.scope_tables.specs.declared.entity.Entity.{Entity}
+use Rattle.scope_tables.specs.declared.entity.Sort.{Sort}
+use Rattle.scope_tables.specs.declared.reach.Reach.{Reach}
 use Rattle.scope_core.specs.declared.settled.Settled.{Settled}
-use Rattle.scope_core.specs.declared.tables.Table.{Table}
-use Rattle.scope_core.specs.Entities.{Declared}
-use Rattle.scope_core.specs.Visible.{World, brought_at}
-use Rattle.scope_core.specs.inside.Reaching.{AreReaches}
+use Rattle.scope_tables.specs.declared.tables.Table.{Table}
+use Rattle.scope_tables.specs.Entities.{Declared}
+use Rattle.scope_tables.specs.Visible.{World, brought_at}
+use Rattle.scope_tables.specs.inside.Reaching.{AreReaches}
 use Rattle.scope_core.specs.Standing.{is_prototype, is_definition, share_name, defines, stands, types_after}
-use Rattle.scope_core.specs.inside.Order.{is_among}
-use Rattle.scope_core.specs.inside.Owning.{same_text, names_in, number_in}
-use Rattle.scope_core.specs.inside.Finding.{placed, is_hidden}
+use Rattle.scope_tables.specs.inside.Order.{is_among}
+use Rattle.scope_tables.specs.inside.Owning.{same_text, names_in, number_in}
+use Rattle.scope_tables.specs.inside.Finding.{placed, is_hidden}
 use Rattle.scope_core.specs.inside.Holding.{IsTable, AreTables, Hold}
 use Rattle.scope_core.specs.inside.Hiding.{key_of, key_in, key_at, has_key, IsHiding}
 use Rattle.scope_core.specs.inside.Settling.{taken_in, taken_at}
 use Rattle.scope_core.specs.inside.Rounds.{declared_in, declared_at, entities_in, settled_count}
 use Rattle.scope_core.specs.inside.Rounds.{is_settled, AreKnown, IsClosed, Settles, Closes}
-use Rattle.scope_core.proofs.OwnLaws.{same_text-tells, name-at}
+use Rattle.scope_tables.proofs.OwnLaws.{same_text-tells, name-at}
 use Rattle.scope_core.proofs.SameLaws.{types-decide}
 use Rattle.scope_core.proofs.CountLaws.{Rows, lengths, in-range}
-use Rattle.scope_core.proofs.MemberLaws.{any-of, all-at, there-is, get-set_same, get-set_other}
-use Rattle.scope_core.proofs.OrderLaws.{among-last}
+use Rattle.scope_tables.proofs.MemberLaws.{any-of, all-at, there-is, get-set_same, get-set_other}
+use Rattle.scope_tables.proofs.OrderLaws.{among-last}
 use Rattle.scope_core.proofs.BaseLaws.{any-in, known-number, both-ways}
 use Rattle.scope_core.proofs.FoundIsLaws.{table-at}
 use Rattle.scope_core.proofs.VisibleLaws.{tables-long}

@@ -8,14 +8,14 @@ use Rattle.std.proofs.lemmas.Bool.{and_parts, or_from, eqb-true, eqb-false, ne_e
 use Rattle.std.proofs.lemmas.List.{map-append}
 use Rattle.std.proofs.lemmas.Simd.{map-map}
 use Rattle.std.proofs.lemmas.List.Elements.{filter-append}
-use Rattle.scope_core.specs.declared.entity.Entity.{Entity}
-use Rattle.scope_core.specs.declared.reach.Reach.{Reach}
-use Rattle.scope_core.specs.declared.tables.Table.{Table}
-use Rattle.scope_core.specs.Entities.{Declared}
-use Rattle.scope_core.specs.Visible.{World, those}
-use Rattle.scope_core.specs.inside.Owning.{same_text, indices_from, indices_of}
-use Rattle.scope_core.specs.inside.Reaching.{has_it}
-use Rattle.scope_core.specs.inside.Finding.{placed, sees, sees_at, seen_in}
+use Rattle.scope_tables.specs.declared.entity.Entity.{Entity}
+use Rattle.scope_tables.specs.declared.reach.Reach.{Reach}
+use Rattle.scope_tables.specs.declared.tables.Table.{Table}
+use Rattle.scope_tables.specs.Entities.{Declared}
+use Rattle.scope_tables.specs.Visible.{World, those}
+use Rattle.scope_tables.specs.inside.Owning.{same_text, indices_from, indices_of}
+use Rattle.scope_tables.specs.inside.Reaching.{has_it}
+use Rattle.scope_tables.specs.inside.Finding.{placed, sees, sees_at, seen_in}
 use Rattle.scope_core.specs.inside.Rounds.{declared_in, declared_at}
 use Rattle.scope_core.specs.inside.Holding.{standing_in, open_pieces, IsTable, AreTables, Ordered, Agree}
 

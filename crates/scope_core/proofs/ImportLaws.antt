@@ -7,18 +7,18 @@ use Rattle.std.specs.Str.{bytes_eq}
 use Rattle.std.proofs.lemmas.List.{append-nil, append_assoc}
 use Rattle.std.proofs.Math.Bool.{and-false}
 use Rattle.mdl_syntax.specs.declared.names.Ident.{Ident}
-use Rattle.scope_core.specs.declared.looked.ScopeFault.{ScopeFault}
+use Rattle.scope_core.specs.declared.fault.ScopeFault.{ScopeFault}
 use Rattle.scope_core.specs.declared.settled.Settled.{Settled}
-use Rattle.scope_core.specs.Entities.{Declared}
-use Rattle.scope_core.specs.Brought.{Bringing, bringing}
-use Rattle.scope_core.specs.Visible.{World}
+use Rattle.scope_tables.specs.Entities.{Declared}
+use Rattle.scope_tables.specs.Brought.{Bringing, bringing}
+use Rattle.scope_tables.specs.Visible.{World}
 use Rattle.scope_core.specs.ScopeFaults.{exported_of, listed_by, name_faults, import_faults}
-use Rattle.scope_core.specs.inside.Kinds.{both, kinds_among, has_none}
+use Rattle.scope_tables.specs.inside.Kinds.{both, kinds_among, has_none}
 use Rattle.scope_core.specs.inside.Lessening.{least_onto}
 use Rattle.scope_core.specs.inside.Noting.{Listings, exported_kinds, kinds_before, Remembers, partly}
 use Rattle.scope_core.specs.inside.Noting.{NotesName, NotesNames, NotesBringing}
 use Rattle.scope_core.specs.inside.Rounds.{AreSettled, last_standing}
-use Rattle.scope_core.proofs.KindLaws.{names_of}
+use Rattle.scope_tables.proofs.KindLaws.{names_of}
 use Rattle.scope_core.proofs.ListedLaws.{least_onto-append}
 use Rattle.scope_core.proofs.ClashLaws.{before-push}
 use Rattle.scope_core.proofs.UnderLaws.{both-none}

@@ -6,7 +6,7 @@ use Rattle.std.specs.Cmp.{IsStrictWeakOrder}
 use Rattle.std.proofs.lemmas.Bool.{or_parts, and_parts, ltb-true, ltb-false, le-ltb, eqb-true, eq-eqb}
 use Rattle.std.proofs.lemmas.List.MinMax.{IsStrictWeakOrder-by_number}
 use Rattle.std.proofs.lemmas.Option.{same_Some, none-some}
-use Rattle.scope_core.specs.declared.looked.ScopeFault.{ScopeFault}
+use Rattle.scope_core.specs.declared.fault.ScopeFault.{ScopeFault}
 use Rattle.scope_core.specs.ScopeFaults.{is_less, fault_key, IsLeast}
 use Rattle.scope_core.specs.inside.Lessening.{least_onto}
 

@@ -1,14 +1,6 @@
-mod MemberLaws
-mod PieceLaws
-mod OwnLaws
-mod OrderLaws
-mod FoundLaws
 mod HoldLaws
 mod WithinLaws
 mod FoundIsLaws
-mod BroughtLaws
-mod ReachLaws
-mod KindLaws
 mod LookLaws
 mod ScopingLaws
 mod StandingLaws
@@ -25,6 +17,8 @@ mod BaseLaws
 mod BasedLaws
 mod VariantLaws
 mod TwiceLaws
+mod FormLaws
+mod SumLaws
 mod UnderLaws
 mod ClashLaws
 mod ImportLaws

@@ -10,11 +10,11 @@ use Rattle.mdl_syntax.specs.declared.declarations.Param.{Param}
 use Rattle.mdl_syntax.specs.Modules.{Parameter, Declaration, parameter_of}
 use Rattle.case_table.specs.Lists.{with_first, firsts}
 use Rattle.case_table.specs.ListLaws.{firsts-push}
-use Rattle.scope_core.specs.declared.looked.ScopeFault.{ScopeFault}
+use Rattle.scope_core.specs.declared.fault.ScopeFault.{ScopeFault}
 use Rattle.scope_core.specs.ScopeFaults.{twice, twice_listed, parameters_of, parameter_faults}
 use Rattle.scope_core.specs.inside.Lessening.{lesser, least_onto}
-use Rattle.scope_core.specs.inside.Owning.{same_text}
-use Rattle.scope_core.proofs.OwnLaws.{same_text-tells, any-onto}
+use Rattle.scope_tables.specs.inside.Owning.{same_text}
+use Rattle.scope_tables.proofs.OwnLaws.{same_text-tells, any-onto}
 
 abbrev texts_of : List Ident → List (List ℕ)
 texts_of names = map (λ (name : Ident). name.text) names

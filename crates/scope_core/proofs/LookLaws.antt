@@ -4,17 +4,17 @@ use Rattle.std.proofs.Common.{length}
 use Rattle.std.specs.Prelude.{if◌then◌else◌}
 use Rattle.std.specs.List.{filter_map, cons_option}
 use Rattle.mdl_syntax.specs.declared.names.NameForm.{NameForm}
-use Rattle.scope_core.specs.declared.entity.Entity.{Entity}
-use Rattle.scope_core.specs.declared.tables.Table.{Table}
-use Rattle.scope_core.specs.declared.tables.Place.{Place}
-use Rattle.scope_core.specs.declared.looked.Looked.TheVariants as looked
-use Rattle.scope_core.specs.Entities.{Declared}
-use Rattle.scope_core.specs.Visible.{World, found, look, judged, missing, are_overloads, ids}
-use Rattle.scope_core.specs.inside.Finding.{entity_at, found_places}
-use Rattle.scope_core.specs.inside.Kinds.{kinds_among, go_together, answer, ids_among, missing_among}
-use Rattle.scope_core.specs.inside.Kinds.{looked_among}
+use Rattle.scope_tables.specs.declared.entity.Entity.{Entity}
+use Rattle.scope_tables.specs.declared.tables.Table.{Table}
+use Rattle.scope_tables.specs.declared.tables.Place.{Place}
+use Rattle.scope_tables.specs.declared.looked.Looked.TheVariants as looked
+use Rattle.scope_tables.specs.Entities.{Declared}
+use Rattle.scope_tables.specs.Visible.{World, found, look, judged, missing, are_overloads, ids}
+use Rattle.scope_tables.specs.inside.Finding.{entity_at, found_places}
+use Rattle.scope_tables.specs.inside.Kinds.{kinds_among, go_together, answer, ids_among, missing_among}
+use Rattle.scope_tables.specs.inside.Kinds.{looked_among}
 use Rattle.scope_core.specs.inside.Holding.{Hold, open_pieces}
-use Rattle.scope_core.proofs.KindLaws.{names_of, overloads-are}
+use Rattle.scope_tables.proofs.KindLaws.{names_of, overloads-are}
 use Rattle.scope_core.proofs.FoundIsLaws.{told, found-is}
 
 filter-told : (f : Place → Option Entity) (places : List Place) (found : List Declared) → map f places ≡ map told found

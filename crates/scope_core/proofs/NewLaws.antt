@@ -18,24 +18,24 @@ use Rattle.module_set.specs.ModuleSets.{IsModuleSet, import_links}
 use Rattle.case_table.specs.Lists.{firsts}
 use Rattle.module_set.specs.Names.{same_name}
 use Rattle.case_table.specs.ListLaws.{slice_get-push}
-use Rattle.scope_core.specs.declared.brought.Bringing as held
-use Rattle.scope_core.specs.declared.looked.ScopeFault.{ScopeFault}
-use Rattle.scope_core.specs.declared.declared.Piece.{Piece}
-use Rattle.scope_core.specs.declared.declared.Written.{Written}
-use Rattle.scope_core.specs.declared.reach.Reach.{Reach}
+use Rattle.scope_tables.specs.declared.brought.Bringing as held
+use Rattle.scope_core.specs.declared.fault.ScopeFault.{ScopeFault}
+use Rattle.scope_tables.specs.declared.declared.Piece.{Piece}
+use Rattle.scope_tables.specs.declared.declared.Written.{Written}
+use Rattle.scope_tables.specs.declared.reach.Reach.{Reach}
 use Rattle.scope_core.specs.declared.settled.Scene.{Scene}
 use Rattle.scope_core.specs.declared.settled.Settled.{Settled}
-use Rattle.scope_core.specs.declared.tables.Table.{Table}
-use Rattle.scope_core.specs.Entities.{Declared, entities_from}
-use Rattle.scope_core.specs.PreludeEntities.{prelude}
-use Rattle.scope_core.specs.Brought.{Bringing, brought}
-use Rattle.scope_core.specs.Visible.{World, brought_at}
+use Rattle.scope_tables.specs.declared.tables.Table.{Table}
+use Rattle.scope_tables.specs.Entities.{Declared, entities_from}
+use Rattle.scope_tables.specs.PreludeEntities.{prelude}
+use Rattle.scope_tables.specs.Brought.{Bringing, brought}
+use Rattle.scope_tables.specs.Visible.{World, brought_at}
 use Rattle.scope_core.specs.Standing.{pieces_of, world_of, stands}
 use Rattle.scope_core.specs.ScopeFaults.{faults_from, module_faults, scope_faults, import_faults, twice_among}
 use Rattle.scope_core.specs.ScopeFaults.{parameter_faults}
-use Rattle.scope_core.specs.inside.Order.{are_below}
+use Rattle.scope_tables.specs.inside.Order.{are_below}
 use Rattle.scope_core.specs.inside.Holding.{Hold, AreTables, open_pieces}
-use Rattle.scope_core.specs.inside.Reaching.{bringing_of, froms, modules_of, AreReaches}
+use Rattle.scope_tables.specs.inside.Reaching.{bringing_of, froms, modules_of, AreReaches}
 use Rattle.scope_core.specs.inside.Rounds.{Describes, AreSettled, last_types, last_standing, entities_in}
 use Rattle.scope_core.specs.inside.Scoping.{ArePieces, AreInside, AreMade, AreWritten, NoneHidden, brought_all}
 use Rattle.scope_core.specs.inside.Checking.{faults_of, faults_in}
@@ -106,8 +106,8 @@ tables-hold world tables pieces are count long below = record {
 pub opens-stand : (world : World) (pieces : List (List Declared)) (settled : Settled) → AreSettled world pieces settled
     → open_pieces settled.tables.items pieces ≡ last_standing world pieces
 opens-stand world pieces settled are =
-    open-are world (stands (last_types world pieces) (entities_in pieces)) 0 settled.tables.items pieces are.hold.are
-    (λ n i one table at there. are.hidden n i one table at there)
+    open-are world (stands (last_types world pieces) (entities_in pieces)) 0 settled.tables.items pieces
+    are.closed.hold.are (λ n i one table at there. are.closed.hidden n i one table at there)
 
 -- modules and members tell the same faults
 faults-same : (names : List ModuleName) (world : World) (pieces : List (List Declared)) (brings : List (List Bringing))

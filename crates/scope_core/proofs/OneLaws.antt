@@ -8,10 +8,10 @@ use Rattle.std.proofs.lemmas.Option.{none-some}
 use Rattle.type_rules.specs.declared.ty.Ty.{Ty}
 use Rattle.module_set.specs.declared.module_name.ModuleName.{ModuleName}
 use Rattle.module_set.specs.Members.{Member}
-use Rattle.scope_core.specs.declared.looked.ScopeFault.{ScopeFault}
-use Rattle.scope_core.specs.declared.looked.ScopeFault.TheVariants as fault
-use Rattle.scope_core.specs.Entities.{Declared}
-use Rattle.scope_core.specs.Brought.{brought}
+use Rattle.scope_core.specs.declared.fault.ScopeFault.{ScopeFault}
+use Rattle.scope_core.specs.declared.fault.ScopeFault.TheVariants as fault
+use Rattle.scope_tables.specs.Entities.{Declared}
+use Rattle.scope_tables.specs.Brought.{brought}
 use Rattle.scope_core.specs.Standing.{pieces_of, types_of, standing}
 use Rattle.scope_core.specs.ScopeFaults.{twice, faults_from, module_faults, scope_faults, fault_key, key_less, is_less}
 use Rattle.scope_core.specs.ScopeFaults.{IsLeast}
@@ -19,7 +19,7 @@ use Rattle.scope_core.specs.OneScopeFault.{OneScopeFault}
 use Rattle.scope_core.specs.inside.Lessening.{least_onto}
 use Rattle.scope_core.proofs.LeastLaws.{least_onto-least, least_onto-none}
 use Rattle.scope_core.proofs.CheckLaws.{Accepts, module-pass, fails-least}
-use Rattle.scope_core.proofs.MemberLaws.{both-all, all-at, any-at-false}
+use Rattle.scope_tables.proofs.MemberLaws.{both-all, all-at, any-at-false}
 use Rattle.scope_core.proofs.PlaceLaws.{fails-placed}
 
 abbrev is_told : ScopeFault → Bool

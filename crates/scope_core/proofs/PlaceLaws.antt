@@ -24,18 +24,18 @@ use Rattle.mdl_syntax.specs.PlacedModules.{placed_parameter, placed_enum_value, 
 use Rattle.mdl_syntax.specs.PlacedModules.{placed_module}
 use Rattle.module_set.specs.declared.module_name.ModuleName.{ModuleName}
 use Rattle.module_set.specs.Members.{Member}
-use Rattle.scope_core.specs.declared.looked.ScopeFault.{ScopeFault}
-use Rattle.scope_core.specs.declared.looked.ScopeFault.TheVariants as fault
-use Rattle.scope_core.specs.Entities.{Declared, values_from, declared, declared_from, entities_from}
-use Rattle.scope_core.specs.PreludeEntities.{prelude}
-use Rattle.scope_core.specs.Brought.{Bringing, index_meant, bringing, named_alone, as_list, brought_item, brought_by}
-use Rattle.scope_core.specs.Brought.{brought}
+use Rattle.scope_core.specs.declared.fault.ScopeFault.{ScopeFault}
+use Rattle.scope_core.specs.declared.fault.ScopeFault.TheVariants as fault
+use Rattle.scope_tables.specs.Entities.{Declared, values_from, declared, declared_from, entities_from}
+use Rattle.scope_tables.specs.PreludeEntities.{prelude}
+use Rattle.scope_tables.specs.Brought.{Bringing, index_meant, bringing, named_alone, as_list, brought_item, brought_by}
+use Rattle.scope_tables.specs.Brought.{brought}
 use Rattle.scope_core.specs.Standing.{types_of, standing}
 use Rattle.scope_core.specs.ScopeFaults.{listed_by, module_faults, faults_from, scope_faults, fault_key, Fails}
 use Rattle.scope_core.specs.Places.{is_place_of, HasPlace, HasPlaces}
 use Rattle.scope_core.proofs.CheckLaws.{is_good, are_good, brings_good, takes_good}
 use Rattle.scope_core.proofs.CheckLaws.{module-pass, places-pass, own-accepts, is_from}
-use Rattle.scope_core.proofs.MemberLaws.{both-all}
+use Rattle.scope_tables.proofs.MemberLaws.{both-all}
 use Rattle.scope_core.proofs.ScopingLaws.{declared_from-inside}
 
 -- all tokens stand at good places

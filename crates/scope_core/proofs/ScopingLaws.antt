@@ -9,20 +9,20 @@ use Rattle.mdl_syntax.specs.declared.modules.Module.{Module}
 use Rattle.mdl_syntax.specs.Modules.{module_of, EnumValue, Declaration, material, variant, function, structure}
 use Rattle.mdl_syntax.specs.Modules.{enumeration, annotation}
 use Rattle.module_set.specs.declared.module_name.ModuleName.{ModuleName}
-use Rattle.scope_core.specs.declared.declared.Piece.{Piece}
-use Rattle.scope_core.specs.Entities.{Declared, values_from, declared, declared_from, entities_from}
-use Rattle.scope_core.specs.PreludeEntities.{prelude}
-use Rattle.scope_core.specs.Brought.{Bringing, brought_by}
-use Rattle.scope_core.specs.declared.declared.Written.{Written}
-use Rattle.scope_core.specs.declared.tables.Table.{Table}
-use Rattle.scope_core.specs.declared.reach.Reach.{Reach}
-use Rattle.scope_core.specs.Visible.{World, brought_at}
+use Rattle.scope_tables.specs.declared.declared.Piece.{Piece}
+use Rattle.scope_tables.specs.Entities.{Declared, values_from, declared, declared_from, entities_from}
+use Rattle.scope_tables.specs.PreludeEntities.{prelude}
+use Rattle.scope_tables.specs.Brought.{Bringing, brought_by}
+use Rattle.scope_tables.specs.declared.declared.Written.{Written}
+use Rattle.scope_tables.specs.declared.tables.Table.{Table}
+use Rattle.scope_tables.specs.declared.reach.Reach.{Reach}
+use Rattle.scope_tables.specs.Visible.{World, brought_at}
 use Rattle.scope_core.specs.inside.Holding.{IsTable, AreTables}
-use Rattle.scope_core.specs.inside.Reaching.{AreReaches}
-use Rattle.scope_core.specs.inside.Pieces.{IsPiece, IsWritten}
+use Rattle.scope_tables.specs.inside.Reaching.{AreReaches}
+use Rattle.scope_tables.specs.inside.Pieces.{IsPiece, IsWritten}
 use Rattle.scope_core.specs.inside.Scoping.{ArePieces, PiecesLeft, BroughtLeft, brought_all, AreWritten, AreInside}
 use Rattle.scope_core.specs.inside.Scoping.{AreMade, MadeSome, Makes}
-use Rattle.scope_core.proofs.MemberLaws.{both-all}
+use Rattle.scope_tables.proofs.MemberLaws.{both-all}
 
 -- one more piece
 pub pieces_push : (all : List (List Declared)) (pieces : List Piece) (one : List Declared) (piece : Piece)

@@ -20,12 +20,12 @@ use Rattle.module_set.specs.Names.{same_name}
 use Rattle.module_set.specs.Imports.{references_in, references, meant, imports_of}
 use Rattle.module_set.specs.Members.{Member, members_from, members_of}
 use Rattle.module_set.specs.ModuleSets.{is_among, NamesMember, import_links, IsModuleSet}
-use Rattle.scope_core.specs.Entities.{entities_from}
-use Rattle.scope_core.specs.PreludeEntities.{prelude}
-use Rattle.scope_core.specs.Brought.{Bringing, bringing, named_alone, as_list, brought_item, brought_by, brought}
+use Rattle.scope_tables.specs.Entities.{entities_from}
+use Rattle.scope_tables.specs.PreludeEntities.{prelude}
+use Rattle.scope_tables.specs.Brought.{Bringing, bringing, named_alone, as_list, brought_item, brought_by, brought}
 use Rattle.scope_core.specs.Standing.{pieces_of, world_of}
-use Rattle.scope_core.specs.inside.Order.{are_below, AreWithin}
-use Rattle.scope_core.specs.inside.Reaching.{froms}
+use Rattle.scope_tables.specs.inside.Order.{are_below, AreWithin}
+use Rattle.scope_tables.specs.inside.Reaching.{froms}
 use Rattle.scope_core.specs.inside.Scoping.{brought_all}
 
 -- what a name brings is of the module that it means

@@ -3,8 +3,8 @@ use Rattle.std.proofs.Common.{◌≡◌, ◌∷◌, ◌||◌, [], List, map, ref
 use Rattle.std.specs.List.{list_any}
 use Rattle.mdl_syntax.specs.declared.declarations.Param.{Param}
 use Rattle.mdl_syntax.specs.Modules.{parameter_of}
-use Rattle.scope_core.specs.Entities.{parameter_types}
-use Rattle.scope_core.specs.Types.{is_deferred, has_deferred}
+use Rattle.scope_tables.specs.Entities.{parameter_types}
+use Rattle.scope_tables.specs.Types.{is_deferred, has_deferred}
 
 -- sizes are deferred in the program's trees where they are in those of the definitions
 pub deferred-of : (params : List Param)

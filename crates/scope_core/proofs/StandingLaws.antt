@@ -5,9 +5,9 @@ use Rattle.std.specs.Prelude.{if◌then◌else◌}
 use Rattle.std.specs.List.{list_any}
 use Rattle.std.proofs.lemmas.Bool.{or_parts, cond-false, false≢true, not-true}
 use Rattle.std.proofs.Math.Bool.{or-false}
-use Rattle.scope_core.specs.Entities.{Declared}
-use Rattle.scope_core.specs.Types.{is_type, single_type}
-use Rattle.scope_core.proofs.MemberLaws.{any-filtered}
+use Rattle.scope_tables.specs.Entities.{Declared}
+use Rattle.scope_tables.specs.Types.{is_type, single_type}
+use Rattle.scope_tables.proofs.MemberLaws.{any-filtered}
 
 -- where something is no type, no single type is found
 no-type : (all : List Declared) → list_any (λ (one : Declared). not (is_type one.entity.sort)) all ≡ true

@@ -19,31 +19,31 @@ use Rattle.type_rules.specs.declared.ty.Ty.{Ty}
 use Rattle.type_rules.specs.Same.{same_type}
 use Rattle.case_table.specs.Lists.{Tells, with_first}
 use Rattle.case_table.specs.ListLaws.{list_any-slice_get}
-use Rattle.scope_core.specs.declared.entity.Entity.{Entity}
-use Rattle.scope_core.specs.declared.entity.Sort.{Sort}
-use Rattle.scope_core.specs.declared.entity.Sort.TheVariants as sort
-use Rattle.scope_core.specs.contracts.entity.SortPartialEq.TheImpl as sorts
-use Rattle.scope_core.specs.declared.kinds.Kinds.{Kinds}
-use Rattle.scope_core.specs.declared.looked.ScopeFault.{ScopeFault}
+use Rattle.scope_tables.specs.declared.entity.Entity.{Entity}
+use Rattle.scope_tables.specs.declared.entity.Sort.{Sort}
+use Rattle.scope_tables.specs.declared.entity.Sort.TheVariants as sort
+use Rattle.scope_tables.specs.contracts.entity.SortPartialEq.TheImpl as sorts
+use Rattle.scope_tables.specs.declared.kinds.Kinds.{Kinds}
+use Rattle.scope_core.specs.declared.fault.ScopeFault.{ScopeFault}
 use Rattle.scope_core.specs.declared.settled.Settled.{Settled}
-use Rattle.scope_core.specs.declared.tables.Table.{Table}
-use Rattle.scope_core.specs.Entities.{Declared}
-use Rattle.scope_core.specs.Visible.{World, is_function, is_annotation}
+use Rattle.scope_tables.specs.declared.tables.Table.{Table}
+use Rattle.scope_tables.specs.Entities.{Declared}
+use Rattle.scope_tables.specs.Visible.{World, is_function, is_annotation}
 use Rattle.scope_core.specs.Standing.{is_prototype, share_name}
 use Rattle.scope_core.specs.ScopeFaults.{may_stand, twice, twice_among}
-use Rattle.scope_core.specs.inside.Finding.{placed}
+use Rattle.scope_tables.specs.inside.Finding.{placed}
 use Rattle.scope_core.specs.inside.Holding.{IsTable, AreTables}
-use Rattle.scope_core.specs.inside.Kinds.{no_kinds, kinds_of, both, kinds_among, has_none, go_together}
+use Rattle.scope_tables.specs.inside.Kinds.{no_kinds, kinds_of, both, kinds_among, has_none, go_together}
 use Rattle.scope_core.specs.inside.Lessening.{lesser, least_onto}
 use Rattle.scope_core.specs.inside.Noting.{Mark, same_mark, is_twice, kinds_at, NotesDeclared}
-use Rattle.scope_core.specs.inside.Owning.{same_text, names_in, number_in}
+use Rattle.scope_tables.specs.inside.Owning.{same_text, names_in, number_in}
 use Rattle.scope_core.specs.inside.Rounds.{AreSettled, last_types, declared_at, declared_in}
 use Rattle.scope_core.specs.inside.Settling.{taken_at}
-use Rattle.scope_core.proofs.KindLaws.{names_of, kinds-push}
+use Rattle.scope_tables.proofs.KindLaws.{names_of, kinds-push}
 use Rattle.scope_core.proofs.ListedLaws.{least_onto-append}
 use Rattle.scope_core.proofs.SameLaws.{types-decide}
-use Rattle.scope_core.proofs.MemberLaws.{crossed, any-filtered, all-at, take-next, there-is}
-use Rattle.scope_core.proofs.OwnLaws.{same_text-tells, number-within, same-number}
+use Rattle.scope_tables.proofs.MemberLaws.{crossed, any-filtered, all-at, take-next, there-is}
+use Rattle.scope_tables.proofs.OwnLaws.{same_text-tells, number-within, same-number}
 use Rattle.scope_core.proofs.VisibleLaws.{tables-long}
 use Rattle.scope_core.proofs.FoundIsLaws.{table-at}
 
@@ -510,7 +510,7 @@ pub own-table : (world : World) (settled : Settled) (pieces : List (List Declare
 own-table world settled pieces m table own are at there =
     let e : 0 + m ≡ m = omega arith in
     subst (λ n. IsTable world n own table) e
-    (piece-at world 0 settled.tables.items pieces m table own are.hold.are at there)
+    (piece-at world 0 settled.tables.items pieces m table own are.closed.hold.are at there)
 
 all-taken : (test : Declared → Bool) (i : ℕ) (all : List Declared) → list_all test all ≡ true
     → list_all test (take i all) ≡ true
@@ -550,7 +550,7 @@ pub taken-there : (world : World) (settled : Settled) (pieces : List (List Decla
     → taken_at settled.taken.items (placed m i) ≡ None → ⊥
 taken-there world settled pieces m i table own are at there within missing =
     let one = own-there world settled pieces m i table own are at there within in
-    let is = are.taken (placed m i) one.0 (placed-own pieces m i own one.0 there one.1) in
+    let is = are.closed.taken (placed m i) one.0 (placed-own pieces m i own one.0 there one.1) in
     none-some is.0 (sym missing ∙ is.1)
 
 -- a list of types has one number
@@ -583,7 +583,7 @@ noted-step world settled pieces m i taken at table own places entity start least
     (slice_get-map (λ (entity : Entity). entity.name) table.own i
     ∙ ap (option_map (λ (entity : Entity). entity.name)) (entity_is ∙ ap Some same_entity)))
     (ap (slice_get settled.lists.keys) (same_Some taken is.0 (sym taken_is ∙ is.1)) ∙ is.2)
-    (lists-apart settled.lists.keys are.apart)
+    (lists-apart settled.lists.keys are.closed.apart)
     (all-taken (λ (one : Declared). one.entity.id.module == m) i own inside)
     (all-at (λ (one : Declared). one.entity.id.module == m) own i one.0 inside one.1)
     (subst (λ (e : Entity). NotesDeclared (number_in table.own e.name) taken e.sort
@@ -616,7 +616,7 @@ noted-step world settled pieces m i taken at table own places entity start least
 
     is : (number : ℕ) × (taken_at settled.taken.items (placed m i) ≡ Some number)
         × (slice_get settled.lists.keys number ≡ Some (last_types world pieces one.0))
-    is = are.taken (placed m i) one.0 (placed-own pieces m i own one.0 there one.1)
+    is = are.closed.taken (placed m i) one.0 (placed-own pieces m i own one.0 there one.1)
 
 -- where all are noted
 pub noted-all : (world : World) (settled : Settled) (pieces : List (List Declared)) (m i : ℕ) (table : Table)
@@ -636,6 +636,6 @@ noted-all world settled pieces m i table own start least kinds seen are at there
 pub table-there : (world : World) (settled : Settled) (pieces : List (List Declared)) (m : ℕ) (own : List Declared)
     → AreSettled world pieces settled → slice_get pieces m ≡ Some own → length settled.tables.items ≤ m → ⊥
 table-there world settled pieces m own are there past =
-    let same = tables-long world 0 settled.tables.items pieces are.hold.are in
+    let same = tables-long world 0 settled.tables.items pieces are.closed.hold.are in
     let within = slice_get_within pieces m own there in
     omega (arith, same, within, past)

@@ -8,21 +8,21 @@ use Rattle.std.proofs.Math.Bool.{or-false, or_assoc, not-not}
 use Rattle.std.proofs.lemmas.Bool.{and_parts, eqb-true, ne_eqb}
 use Rattle.std.proofs.lemmas.List.{map-append}
 use Rattle.std.proofs.lemmas.List.Elements.{filter-append}
-use Rattle.scope_core.specs.declared.entity.Entity.{Entity}
-use Rattle.scope_core.specs.declared.kinds.Kinds.{Kinds}
+use Rattle.scope_tables.specs.declared.entity.Entity.{Entity}
+use Rattle.scope_tables.specs.declared.kinds.Kinds.{Kinds}
 use Rattle.scope_core.specs.declared.settled.Settled.{Settled}
-use Rattle.scope_core.specs.declared.tables.Table.{Table}
-use Rattle.scope_core.specs.Entities.{Declared}
-use Rattle.scope_core.specs.Visible.{World}
+use Rattle.scope_tables.specs.declared.tables.Table.{Table}
+use Rattle.scope_tables.specs.Entities.{Declared}
+use Rattle.scope_tables.specs.Visible.{World}
 use Rattle.scope_core.specs.Standing.{stands}
 use Rattle.scope_core.specs.ScopeFaults.{of_name, exported_of}
-use Rattle.scope_core.specs.inside.Finding.{is_hidden}
+use Rattle.scope_tables.specs.inside.Finding.{is_hidden}
 use Rattle.scope_core.specs.inside.Holding.{AreTables}
-use Rattle.scope_core.specs.inside.Kinds.{no_kinds, kinds_of, both, kinds_among}
-use Rattle.scope_core.specs.inside.Noting.{kinds_if, kinds_there, kinds_of_all, kinds_in, kinds_under}
-use Rattle.scope_core.specs.inside.Owning.{same_text, indices_from}
+use Rattle.scope_tables.specs.inside.Kinds.{no_kinds, kinds_of, both, kinds_among}
+use Rattle.scope_core.specs.inside.Sums.{kinds_if, kinds_there, kinds_of_all, kinds_in, kinds_under}
+use Rattle.scope_tables.specs.inside.Owning.{same_text, indices_from}
 use Rattle.scope_core.specs.inside.Rounds.{AreSettled, last_types, last_standing, entities_in, declared_in}
-use Rattle.scope_core.proofs.KindLaws.{names_of}
+use Rattle.scope_tables.proofs.KindLaws.{names_of}
 
 pub both-assoc : (one other third : Kinds) → both (both one other) third ≡ both one (both other third)
 both-assoc one other third = λ k. record {
@@ -280,8 +280,9 @@ pub under-is : (world : World) (pieces : List (List Declared)) (settled : Settle
 under-is world pieces settled m name exported are =
     only-piece world (stands (last_types world pieces) (entities_in pieces)) 0 m name exported
     settled.tables.items pieces
-    settled.tables.items are.hold.are (λ i. ap (slice_get settled.tables.items) (start i))
-    (λ i one table at there. are.hidden m i one table (ap (slice_get settled.tables.items) (sym (start m)) ∙ at) there)
+    settled.tables.items are.closed.hold.are (λ i. ap (slice_get settled.tables.items) (start i))
+    (λ i one table at there.
+    are.closed.hidden m i one table (ap (slice_get settled.tables.items) (sym (start m)) ∙ at) there)
     ∙ ap (λ n. sorts_where (counts_in (stands (last_types world pieces) (entities_in pieces)) n name exported)
     (entities_in pieces)) (start m)
     ∙ ap (λ l. kinds_among (names_of l))

@@ -10,14 +10,14 @@ use Rattle.mdl_syntax.specs.Trees.{Tree}
 use Rattle.mdl_syntax.specs.Modules.{EnumValue, Declaration, material, variant, function, structure}
 use Rattle.mdl_syntax.specs.Modules.{enumeration, annotation}
 use Rattle.module_set.specs.Members.{Member}
-use Rattle.scope_core.specs.declared.entity.Sort.TheVariants as sort
-use Rattle.scope_core.specs.declared.tables.Place.{Place}
-use Rattle.scope_core.specs.Entities.{Declared, is_material_form, is_material_size, function_sort}
-use Rattle.scope_core.specs.Entities.{values_from, declared, declared_from, entities_from}
-use Rattle.scope_core.specs.PreludeEntities.{prelude}
+use Rattle.scope_tables.specs.declared.entity.Sort.TheVariants as sort
+use Rattle.scope_tables.specs.declared.tables.Place.{Place}
+use Rattle.scope_tables.specs.Entities.{Declared, is_material_form, is_material_size, function_sort}
+use Rattle.scope_tables.specs.Entities.{values_from, declared, declared_from, entities_from}
+use Rattle.scope_tables.specs.PreludeEntities.{prelude}
 use Rattle.scope_core.specs.Standing.{is_prototype, pieces_of}
 use Rattle.scope_core.specs.inside.Rounds.{declared_in, declared_at, is_based}
-use Rattle.scope_core.proofs.MemberLaws.{all-at}
+use Rattle.scope_tables.proofs.MemberLaws.{all-at}
 
 abbrev is_either : Declared → Bool
 is_either one = not (is_prototype one.entity.sort && is_based one.takes)

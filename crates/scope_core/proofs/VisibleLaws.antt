@@ -17,30 +17,30 @@ use Rattle.mdl_syntax.specs.declared.names.NameForm.{NameForm}
 use Rattle.mdl_syntax.specs.declared.names.NameForm.TheVariants as form
 use Rattle.mdl_syntax.specs.declared.types.Size.{Size}
 use Rattle.mdl_syntax.specs.Modules.{Parameter, parameter_of}
-use Rattle.scope_core.specs.declared.entity.Entity.{Entity}
-use Rattle.scope_core.specs.declared.entity.Sort.{Sort}
-use Rattle.scope_core.specs.declared.entity.Sort.TheVariants as sort
+use Rattle.scope_tables.specs.declared.entity.Entity.{Entity}
+use Rattle.scope_tables.specs.declared.entity.Sort.{Sort}
+use Rattle.scope_tables.specs.declared.entity.Sort.TheVariants as sort
 use Rattle.scope_core.specs.declared.settled.Settled.{Settled}
-use Rattle.scope_core.specs.declared.tables.Table.{Table}
-use Rattle.scope_core.specs.declared.tables.Place.{Place}
-use Rattle.scope_core.specs.Entities.{Declared}
-use Rattle.scope_core.specs.Brought.{Bringing}
-use Rattle.scope_core.specs.Visible.{World, brought_at, name_at, brings, uses, is_within, is_near, is_far, is_given}
-use Rattle.scope_core.specs.Visible.{fits, those, found, found_parts, found_near, found_far, or_else, texts}
-use Rattle.scope_core.specs.Visible.{last_part, front_parts, word_text}
+use Rattle.scope_tables.specs.declared.tables.Table.{Table}
+use Rattle.scope_tables.specs.declared.tables.Place.{Place}
+use Rattle.scope_tables.specs.Entities.{Declared}
+use Rattle.scope_tables.specs.Brought.{Bringing}
+use Rattle.scope_tables.specs.Visible.{World, brought_at, name_at, brings, uses, is_within, is_near, is_far, is_given}
+use Rattle.scope_tables.specs.Visible.{fits, those, found, found_parts, found_near, found_far, or_else, texts}
+use Rattle.scope_tables.specs.Visible.{last_part, front_parts, word_text}
 use Rattle.scope_core.specs.Standing.{is_prototype, is_definition, share_name, defines, stands, types_after}
 use Rattle.scope_core.specs.Standing.{standing_after}
-use Rattle.scope_core.specs.Types.{is_type, single_type, named_type, formed_type, type_of}
-use Rattle.scope_core.specs.inside.Order.{is_among}
-use Rattle.scope_core.specs.inside.Finding.{is_hidden, entity_at, found_places}
-use Rattle.scope_core.specs.inside.Typing.{type_entity, single_place, named, formed_at, types_at}
+use Rattle.scope_tables.specs.Types.{is_type, single_type, named_type, formed_type, type_of}
+use Rattle.scope_tables.specs.inside.Order.{is_among}
+use Rattle.scope_tables.specs.inside.Finding.{is_hidden, entity_at, found_places}
+use Rattle.scope_tables.specs.inside.Typing.{type_entity, single_place, named, formed_at, types_at}
 use Rattle.scope_core.specs.inside.Holding.{standing_in, open_pieces, AreTables}
 use Rattle.scope_core.specs.inside.Rounds.{declared_in, entities_in, settled_count, is_out, Settles}
 use Rattle.scope_core.specs.inside.Rounds.{CanSettle, FindsIn}
 use Rattle.scope_core.proofs.FoundIsLaws.{told, found-is, places-are}
 use Rattle.scope_core.proofs.StandingLaws.{single-stays}
 use Rattle.scope_core.proofs.WithinLaws.{uses-from, brings-from}
-use Rattle.scope_core.proofs.MemberLaws.{filter-of, filter-has, any-of, any-at, any-at-false, all-at, nil-cons}
+use Rattle.scope_tables.proofs.MemberLaws.{filter-of, filter-has, any-of, any-at, any-at-false, all-at, nil-cons}
 
 filter-same : (one other : Declared → Bool) (all : List Declared) → ((d : Declared) → one d ≡ other d)
     → filter one all ≡ filter other all

@@ -12,21 +12,21 @@ use Rattle.std.proofs.lemmas.List.Folds.{list_any-append}
 use Rattle.std.proofs.lemmas.Option.{same_Some, none-some, slice_get-map}
 use Rattle.std.proofs.Math.Bool.{or-true}
 use Rattle.type_rules.specs.declared.ty.Ty.{Ty}
-use Rattle.scope_core.specs.declared.declared.Takes as held_takes
-use Rattle.scope_core.specs.declared.declared.Takes.TheVariants as held
-use Rattle.scope_core.specs.declared.declared.Written.{Written}
+use Rattle.scope_tables.specs.declared.declared.Takes as held_takes
+use Rattle.scope_tables.specs.declared.declared.Takes.TheVariants as held
+use Rattle.scope_tables.specs.declared.declared.Written.{Written}
 use Rattle.scope_core.specs.declared.settled.Settled.{Settled}
 use Rattle.scope_core.specs.declared.settled.Scene.{Scene}
-use Rattle.scope_core.specs.declared.tables.Table.{Table}
-use Rattle.scope_core.specs.declared.tables.Place.{Place}
-use Rattle.scope_core.specs.Entities.{Declared, Takes, listed, known, based}
-use Rattle.scope_core.specs.Visible.{World, found}
-use Rattle.scope_core.specs.Types.{is_callable, has_deferred, based_on}
+use Rattle.scope_tables.specs.declared.tables.Table.{Table}
+use Rattle.scope_tables.specs.declared.tables.Place.{Place}
+use Rattle.scope_tables.specs.Entities.{Declared, Takes, listed, known, based}
+use Rattle.scope_tables.specs.Visible.{World, found}
+use Rattle.scope_tables.specs.Types.{is_callable, has_deferred, based_on}
 use Rattle.scope_core.specs.Standing.{is_prototype, types_after, standing_after}
-use Rattle.scope_core.specs.inside.Order.{is_among}
-use Rattle.scope_core.specs.inside.Finding.{placed, found_places}
+use Rattle.scope_tables.specs.inside.Order.{is_among}
+use Rattle.scope_tables.specs.inside.Finding.{placed, found_places}
 use Rattle.scope_core.specs.inside.Holding.{open_pieces}
-use Rattle.scope_core.specs.inside.Pieces.{takes_of}
+use Rattle.scope_tables.specs.inside.Pieces.{takes_of}
 use Rattle.scope_core.specs.inside.Settling.{same_place, taken_at, takes_at, next_of}
 use Rattle.scope_core.specs.inside.Rounds.{declared_in, declared_at, entities_in, settled_count, is_known_number}
 use Rattle.scope_core.specs.inside.Rounds.{is_settled, Settles, Describes, CanSettle, IsReady, is_based}

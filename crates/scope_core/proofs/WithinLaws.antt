@@ -4,11 +4,11 @@ use Rattle.std.proofs.Common.{Some, refl, sym, ap, slice_get, filter, arith}
 use Rattle.std.specs.Prelude.{if◌then◌else◌}
 use Rattle.std.specs.List.{list_any, list_all}
 use Rattle.std.proofs.lemmas.Bool.{and_parts, or_from, false_from_ne_true, false≢true, eqb-true}
-use Rattle.scope_core.specs.declared.entity.Entity.{Entity}
-use Rattle.scope_core.specs.declared.reach.Reach.{Reach}
-use Rattle.scope_core.specs.Brought.{Bringing}
-use Rattle.scope_core.specs.Visible.{World, brought_at, lists, brings, uses, is_within}
-use Rattle.scope_core.specs.inside.Reaching.{has_it, brings_it, from_module, modules_of, Tells, AreReaches, Ascends}
+use Rattle.scope_tables.specs.declared.entity.Entity.{Entity}
+use Rattle.scope_tables.specs.declared.reach.Reach.{Reach}
+use Rattle.scope_tables.specs.Brought.{Bringing}
+use Rattle.scope_tables.specs.Visible.{World, brought_at, lists, brings, uses, is_within}
+use Rattle.scope_tables.specs.inside.Reaching.{has_it, brings_it, from_module, modules_of, Tells, AreReaches, Ascends}
 use Rattle.scope_core.specs.inside.Holding.{Ordered, Agree}
 use Rattle.scope_core.proofs.HoldLaws.{ordered-weaken}
 

@@ -5,22 +5,22 @@ use Rattle.std.proofs.lemmas.Bool.{false≢true, eqb-true}
 use Rattle.type_rules.specs.declared.ty.Ty.{Ty}
 use Rattle.mdl_syntax.specs.declared.declarations.Param.{Param}
 use Rattle.mdl_syntax.specs.Modules.{parameter_of}
-use Rattle.scope_core.specs.declared.declared.Takes as held_takes
+use Rattle.scope_tables.specs.declared.declared.Takes as held_takes
 use Rattle.scope_core.specs.declared.settled.Settled.{Settled}
 use Rattle.scope_core.specs.declared.settled.Scene.{Scene}
-use Rattle.scope_core.specs.declared.tables.Place.{Place}
-use Rattle.scope_core.specs.Entities.{Declared, Takes, listed, known, based}
-use Rattle.scope_core.specs.Entities as written
-use Rattle.scope_core.specs.PreludeEntities.{prelude}
-use Rattle.scope_core.specs.Visible.{World}
-use Rattle.scope_core.specs.Types.{types_in}
+use Rattle.scope_tables.specs.declared.tables.Place.{Place}
+use Rattle.scope_tables.specs.Entities.{Declared, Takes, listed, known, based}
+use Rattle.scope_tables.specs.Entities as written
+use Rattle.scope_tables.specs.PreludeEntities.{prelude}
+use Rattle.scope_tables.specs.Visible.{World}
+use Rattle.scope_tables.specs.Types.{types_in}
 use Rattle.scope_core.specs.Standing.{types_after, standing_after}
-use Rattle.scope_core.specs.inside.Pieces.{takes_of}
-use Rattle.scope_core.specs.inside.Typing.{types_at}
+use Rattle.scope_tables.specs.inside.Pieces.{takes_of}
+use Rattle.scope_tables.specs.inside.Typing.{types_at}
 use Rattle.scope_core.specs.inside.Rounds.{declared_in, declared_at, entities_in, Describes}
 use Rattle.scope_core.specs.inside.Rounds.{CanSettle, IsReady, SettlesBy, SettlesWritten}
 use Rattle.scope_core.proofs.VisibleLaws.{module-at, written-types}
-use Rattle.scope_core.proofs.MemberLaws.{all-at}
+use Rattle.scope_tables.proofs.MemberLaws.{all-at}
 
 abbrev pub is_known : Takes → Bool
 is_known (listed trees) = false

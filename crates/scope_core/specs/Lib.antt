@@ -1,8 +1,3 @@
-pub mod Entities
-pub mod PreludeEntities
-pub mod Brought
-pub mod Visible
-pub mod Types
 pub mod Standing
 pub mod ScopeFaults
 pub mod Places

@@ -2,8 +2,8 @@
 use Rattle.std.specs.Prelude.{◌≡◌, ◌⊎◌, List, []}
 use Rattle.module_set.specs.declared.module_name.ModuleName.{ModuleName}
 use Rattle.module_set.specs.Members.{Member}
-use Rattle.scope_core.specs.declared.looked.ScopeFault.{ScopeFault}
-use Rattle.scope_core.specs.declared.looked.ScopeFault.TheVariants as fault
+use Rattle.scope_core.specs.declared.fault.ScopeFault.{ScopeFault}
+use Rattle.scope_core.specs.declared.fault.ScopeFault.TheVariants as fault
 use Rattle.scope_core.specs.ScopeFaults.{scope_faults, IsLeast}
 use Rattle.scope_core.specs.Places.{HasPlaces}
 

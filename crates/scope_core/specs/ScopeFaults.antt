@@ -12,11 +12,11 @@ use Rattle.mdl_syntax.specs.Modules.{Parameter, Declaration, material, variant, 
 use Rattle.mdl_syntax.specs.Modules.{structure, enumeration, annotation}
 use Rattle.module_set.specs.declared.module_name.ModuleName.{ModuleName}
 use Rattle.module_set.specs.Members.{Member}
-use Rattle.scope_core.specs.declared.looked.ScopeFault.{ScopeFault}
-use Rattle.scope_core.specs.declared.looked.ScopeFault.TheVariants as fault
-use Rattle.scope_core.specs.Entities.{Declared}
-use Rattle.scope_core.specs.Brought.{Bringing, brought}
-use Rattle.scope_core.specs.Visible.{is_function, is_annotation, are_overloads}
+use Rattle.scope_core.specs.declared.fault.ScopeFault.{ScopeFault}
+use Rattle.scope_core.specs.declared.fault.ScopeFault.TheVariants as fault
+use Rattle.scope_tables.specs.Entities.{Declared}
+use Rattle.scope_tables.specs.Brought.{Bringing, brought}
+use Rattle.scope_tables.specs.Visible.{is_function, is_annotation, are_overloads}
 use Rattle.scope_core.specs.Standing.{is_prototype, share_name, pieces_of, standing, types_of}
 
 -- two declarations, or values, that share a name in a module may stand together: functions of other types,

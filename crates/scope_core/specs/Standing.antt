@@ -13,13 +13,13 @@ use Rattle.type_rules.specs.declared.ty.Ty.{Ty}
 use Rattle.type_rules.specs.Same.{same_type}
 use Rattle.module_set.specs.Members.{Member}
 use Rattle.module_set.specs.declared.module_name.ModuleName.{ModuleName}
-use Rattle.scope_core.specs.declared.entity.Sort.{Sort}
-use Rattle.scope_core.specs.declared.entity.Sort.TheVariants as sort
-use Rattle.scope_core.specs.Entities.{Declared, entities_from}
-use Rattle.scope_core.specs.PreludeEntities.{prelude}
-use Rattle.scope_core.specs.Brought.{brought}
-use Rattle.scope_core.specs.Visible.{World}
-use Rattle.scope_core.specs.Types.{types_in}
+use Rattle.scope_tables.specs.declared.entity.Sort.{Sort}
+use Rattle.scope_tables.specs.declared.entity.Sort.TheVariants as sort
+use Rattle.scope_tables.specs.Entities.{Declared, entities_from}
+use Rattle.scope_tables.specs.PreludeEntities.{prelude}
+use Rattle.scope_tables.specs.Brought.{brought}
+use Rattle.scope_tables.specs.Visible.{World}
+use Rattle.scope_tables.specs.Types.{types_in}
 
 abbrev pub is_prototype : Sort → Bool
 is_prototype sort.Intrinsic = true

@@ -1,28 +1,28 @@
 ghost use Rattle.std.specs.Prelude.{◌≡◌, ◌++◌, [], None, Some, List, map, slice_get, IfOk, OnOk};
 ghost use Rattle.std.specs.List.{flat_map};
 ghost use Rattle.mdl_syntax.specs.Modules.{parameter_of, declaration_of, module_of};
-ghost use Rattle.scope_core.specs.Entities.{Declared};
-ghost use Rattle.scope_core.specs.Visible.{World};
+ghost use Rattle.scope_tables.specs.Entities.{Declared};
+ghost use Rattle.scope_tables.specs.Visible.{World};
 ghost use Rattle.scope_core.specs.ScopeFaults.{is_less, key_less, fault_key, twice_listed, parameters_of};
 ghost use Rattle.scope_core.specs.ScopeFaults.{import_faults, twice_among, parameter_faults};
-ghost use Rattle.scope_core.specs.inside.Kinds.{has_none};
+ghost use Rattle.scope_tables.specs.inside.Kinds.{has_none};
 ghost use Rattle.scope_core.specs.inside.Lessening.{lesser, least_onto};
-ghost use Rattle.scope_core.specs.inside.Reaching.{bringing_of};
+ghost use Rattle.scope_tables.specs.inside.Reaching.{bringing_of};
 ghost use Rattle.scope_core.specs.inside.Rounds.{AreSettled, last_types, last_standing};
-ghost use Rattle.scope_core.specs.inside.Noting.{NotesDeclared, is_twice, kinds_there, kinds_of_all, kinds_under};
+ghost use Rattle.scope_core.specs.inside.Noting.{NotesDeclared, is_twice};
 ghost use Rattle.scope_core.specs.inside.Noting.{NotesBringing, NotesNames, NotesName, NotesUsed, NotesListed};
 ghost use Rattle.scope_core.specs.inside.Noting.{missing_by, is_clash, joined};
 
-use crate::brought::{Bringing, Names};
-use crate::declared::number_of;
-use crate::entity::Sort;
-use crate::kinds::{Kinds, NO_KINDS};
-use crate::looked::ScopeFault;
+use crate::fault::ScopeFault;
 use crate::settled::Settled;
-use crate::tables::{Place, Table, is_hidden};
 use case_table::Text;
 use indexmap::{IndexMap, IndexSet};
 use mdl_syntax::{Decl, Ident, Module, Param};
+use scope_tables::brought::{Bringing, Names};
+use scope_tables::declared::number_of;
+use scope_tables::entity::Sort;
+use scope_tables::kinds::{Kinds, NO_KINDS};
+use scope_tables::tables::{Place, Table};
 use std::alloc::{AllocError, Global};
 
 /// The least fault of a module, if it has one.
@@ -325,11 +325,10 @@ fn name_faults(
     ensures { OnOk result (NotesName settled.now «module» number bringing.now.from bringing.now.used name.now
         earlier.old.entries least.old earlier.new.entries least.new) }
 {
-    let all = kinds_under(&settled.tables, bringing.from, &name.text, false);
-    let exported = kinds_under(&settled.tables, bringing.from, &name.text, true);
-    note_missing(least, all, exported, number, name.span.at);
-    if bringing.used && !exported.is_empty() {
-        let own = kinds_under(&settled.tables, module, &name.text, false);
+    let there = settled.under(bringing.from, &name.text);
+    note_missing(least, there.all, there.exported, number, name.span.at);
+    if bringing.used && !there.exported.is_empty() {
+        let own = settled.under(module, &name.text);
         let fault = ScopeFault::Clash {
             module: number,
             at: name.span.at,
@@ -337,8 +336,8 @@ fn name_faults(
         note_used(
             least,
             earlier,
-            own,
-            exported,
+            own.all,
+            there.exported,
             bringing.from,
             &name.text,
             fault,
@@ -421,37 +420,5 @@ fn joined(known: Earlier, kinds: Kinds, module: usize) -> Earlier
         module: known.module,
         more: known.more || known.module != module,
         kinds: known.kinds.and(kinds),
-    }
-}
-
-/// The sorts of what stands under a name of a module, or of what is exported of it.
-fn kinds_under(tables: &[Table], module: usize, name: &Text, exported: bool) -> Kinds
-    ensures { result ≡ kinds_under tables.now «module» name.now exported }
-{
-    match tables.get(module) {
-        Some(table) => kinds_of_all(table, table.own.indices(name), exported),
-        None => NO_KINDS,
-    }
-}
-
-/// The sorts of the entities of a table at these indices.
-fn kinds_of_all(table: &Table, indices: &[usize], exported: bool) -> Kinds
-    ensures { result ≡ kinds_of_all table.now exported indices.now }
-{
-    let mut kinds = NO_KINDS;
-    for index in indices {
-        kinds = kinds.and(kinds_there(table, *index, exported));
-    }
-    kinds
-}
-
-fn kinds_there(table: &Table, index: usize, exported: bool) -> Kinds
-    ensures { result ≡ kinds_there table.now exported index }
-{
-    match table.own.list().get(index) {
-        Some(entity) if !is_hidden(table, index) && (!exported || entity.exported) => {
-            Kinds::of(entity.sort)
-        }
-        _ => NO_KINDS,
     }
 }

@@ -1,26 +1,16 @@
 //! What names mean in the modules of a set.
 #![tactic(auto)]
 
-mod brought;
-mod declared;
-mod entity;
+mod bases;
+mod fault;
 mod faults;
-mod found;
-mod kinds;
 mod laws;
-mod looked;
-mod looking;
-mod order;
-mod own;
-mod prelude;
-mod reach;
 mod scopes;
 mod settled;
-mod tables;
-mod types;
-mod words;
+mod sums;
 
-pub use entity::{EntityId, Sort};
+pub use fault::ScopeFault;
 pub use laws::one_scope_fault;
-pub use looked::{Looked, ScopeFault};
+pub use scope_tables::entity::{EntityId, Sort};
+pub use scope_tables::looked::Looked;
 pub use scopes::Scopes;

@@ -2,10 +2,9 @@ ghost use Rattle.std.specs.Prelude.{◌≡◌, ◌<◌, ◌||◌, [], None, Some
 ghost use Rattle.std.specs.Prelude.{IfOk, OnOk};
 ghost use Rattle.std.specs.List.{list_any};
 ghost use Rattle.type_rules.specs.Types.{plain};
-ghost use Rattle.scope_core.specs.Types.{is_callable, is_deferred, has_deferred};
+ghost use Rattle.scope_tables.specs.Types.{is_callable, is_deferred, has_deferred};
 ghost use Rattle.scope_core.specs.Standing.{is_prototype, is_definition};
-ghost use Rattle.scope_core.specs.inside.Pieces.{takes_of};
-ghost use Rattle.scope_core.specs.inside.Settling.{is_own_prototype, likely_base, only_place, others_of};
+ghost use Rattle.scope_tables.specs.inside.Pieces.{takes_of};
 ghost use Rattle.scope_core.specs.inside.Settling.{taken_at, same_number, same_place, defines_at, stands_alone};
 ghost use Rattle.scope_core.specs.inside.Settling.{takes_at, next_of, defers, is_base_at, number_on, base_number};
 ghost use Rattle.scope_core.specs.inside.Walking.{Begins, Follows, Walks};
@@ -15,22 +14,27 @@ ghost use Rattle.scope_core.specs.inside.Rounds.{Describes, Stays, SettlesBy, Se
 ghost use Rattle.scope_core.specs.inside.Rounds.{SettlesVariant};
 ghost use Rattle.scope_core.specs.inside.Rounds.{Closes, SettlesListed, SettlesVariants, SettlesModule};
 ghost use Rattle.scope_core.specs.inside.Rounds.{SettlesModules, AreSettled};
-ghost use Rattle.scope_core.specs.Entities.{Declared};
-ghost use Rattle.scope_core.specs.Visible.{World};
-ghost use Rattle.scope_core.specs.inside.Order.{IsOrder};
-ghost use Rattle.scope_core.specs.inside.Reaching.{froms};
+ghost use Rattle.scope_tables.specs.Entities.{Declared};
+ghost use Rattle.scope_tables.specs.Visible.{World};
+ghost use Rattle.scope_tables.specs.inside.Order.{IsOrder};
+ghost use Rattle.scope_tables.specs.inside.Reaching.{froms};
 ghost use Rattle.scope_core.specs.inside.Holding.{Hold};
 ghost use Rattle.scope_core.specs.inside.Scoping.{NoneHidden};
+ghost use Rattle.scope_core.specs.inside.Sums.{AreSums, under};
+ghost use Rattle.scope_core.specs.inside.Based.{AreBases};
 
-use crate::declared::{Takes, Written};
-use crate::entity::{Entity, Sort};
-use crate::found::{View, found};
-use crate::tables::{Place, Table, entity_at, unset_flags};
-use crate::types::types_of;
+use crate::bases::{Bases, bases_of, likely};
+use crate::sums;
+use crate::sums::{NameKinds, sums};
 use case_table::{Seq, Text};
 use indexmap::IndexSet;
 use mdl_syntax::{Param, Size};
 use module_set::ModuleName;
+use scope_tables::declared::{Takes, Written};
+use scope_tables::entity::{Entity, Sort};
+use scope_tables::found::{View, found};
+use scope_tables::tables::{Place, Table, entity_at, unset_flags};
+use scope_tables::types::types_of;
 use std::alloc::{AllocError, Global};
 use type_rules::{Shape, Ty};
 
@@ -41,6 +45,8 @@ pub struct Settled {
     lists: IndexSet<Seq<Ty>>,
     /// For each module, and each of its entities, the index in `lists` of what it takes.
     taken: Vec<Vec<Option<usize>>>,
+    /// For each module, and each of its names, what stands under it, once all is settled.
+    sums: Vec<Vec<NameKinds>>,
 }
 
 /// What there is to settle.
@@ -67,8 +73,10 @@ pub fn settle_all(
         tables,
         lists: IndexSet::new(alloc),
         taken: unknown(alloc, scene.written)?,
+        sums: Vec::new(alloc),
     };
     settled.settle_modules(alloc, scene, order)?;
+    settled.sums = sums(alloc, &settled.tables)?;
     Ok(settled)
 }
 
@@ -94,6 +102,14 @@ impl Settled {
             Some(taken) => taken_at(taken, place.index),
             None => None,
         }
+    }
+
+    /// What stands under a name of a module.
+    pub fn under(&self, module: usize, name: &Text) -> NameKinds
+        ensures { AreSums self.now.tables.items self.now.sums.items
+            → result ≡ under self.now.tables.items «module» name.now }
+    {
+        sums::under(&self.tables, &self.sums, module, name)
     }
 
     fn view<'a>(&'a self, scene: Scene<'a>) -> View<'a>
@@ -133,7 +149,8 @@ impl Settled {
     {
         if let Some(written) = scene.written.get(module) {
             self.settle_listed(alloc, scene, module, &written.takes)?;
-            self.settle_variants(alloc, scene, module, written.takes.len())?;
+            let bases = bases_of(alloc, self.view(scene), module, &written.takes)?;
+            self.settle_variants(alloc, scene, &bases, module, written.takes.len())?;
         }
         self.hide(alloc, module)?;
         Ok(())
@@ -158,14 +175,16 @@ impl Settled {
         &mut self,
         alloc: Global,
         scene: Scene,
+        bases: &Bases,
         module: usize,
         count: usize,
     ) -> Result<(), AllocError>
+        requires { AreBases scene self.old.tables.items bases.now }
         ensures { OnOk result (SettlesVariants scene.entry «module» count self.old self.new) }
     {
         let mut begun = unset_flags(alloc, count)?;
         for index in 0..count {
-            self.settle_variant(alloc, scene, &mut begun, Place { module, index })?;
+            self.settle_variant(alloc, scene, bases, &mut begun, Place { module, index })?;
         }
         Ok(())
     }
@@ -222,15 +241,17 @@ impl Settled {
         &mut self,
         alloc: Global,
         scene: Scene,
+        bases: &Bases,
         begun: &mut [bool],
         place: Place,
     ) -> Result<(), AllocError>
+        requires { AreBases scene self.old.tables.items bases.now }
         ensures { OnOk result (SettlesVariant scene.entry begun.old place self.old begun.new self.new) }
     {
         let mut path = Vec::new(alloc);
-        self.walk(alloc, scene, begun, &mut path, place)?;
+        self.walk(alloc, scene, bases, begun, &mut path, place)?;
         'steps: while let Some(variant) = path.pop() {
-            self.settle_based(alloc, scene, variant)?;
+            self.settle_based(alloc, scene, bases, variant)?;
         }
         Ok(())
     }
@@ -240,16 +261,18 @@ impl Settled {
         &mut self,
         alloc: Global,
         scene: Scene,
+        bases: &Bases,
         begun: &mut [bool],
         path: &mut Vec<Place>,
         place: Place,
     ) -> Result<(), AllocError>
+        requires { AreBases scene self.old.tables.items bases.now }
         ensures { OnOk result (Walks scene.entry begun.old path.old.items (Some place) self.old begun.new path.new.items
             None self.new) }
     {
         let mut next = Some(place);
         'steps: while let Some(current) = next {
-            next = self.follow(alloc, scene, begun, path, current)?;
+            next = self.follow(alloc, scene, bases, begun, path, current)?;
         }
         Ok(())
     }
@@ -259,17 +282,19 @@ impl Settled {
         &mut self,
         alloc: Global,
         scene: Scene,
+        bases: &Bases,
         begun: &mut [bool],
         path: &mut Vec<Place>,
         current: Place,
     ) -> Result<Option<Place>, AllocError>
+        requires { AreBases scene self.old.tables.items bases.now }
         ensures { IfOk result (λ next. Follows scene.entry begun.old path.old.items current self.old begun.new
             path.new.items next self.new) }
     {
         if self.taken(current).is_some() {
             return Ok(None);
         }
-        match self.next_base(alloc, scene, current)? {
+        match self.next_base(alloc, scene, bases, current)? {
             Some(next) => {
                 if begin(begun, current.index) {
                     path.push(current)?;
@@ -291,13 +316,18 @@ impl Settled {
         &self,
         alloc: Global,
         scene: Scene,
+        bases: &Bases,
         place: Place,
     ) -> Result<Option<Place>, AllocError>
+        requires { AreBases scene self.now.tables.items bases.now }
         ensures { IfOk result (λ next. next ≡ next_of scene.entry.names.now self.now.tables.items place.«module»
             (takes_at scene.entry.written.now place)) }
     {
         match takes_at(scene, place) {
             Some(Takes::Based(name)) => {
+                if let Some(base) = bases.at(place) {
+                    return Ok(base.likely);
+                }
                 let found = found(alloc, self.view(scene), place.module, &name.form, false)?;
                 Ok(likely(&self.tables, place.module, &found))
             }
@@ -306,10 +336,17 @@ impl Settled {
     }
 
     /// Settles a variant whose base is settled, if it has one.
-    fn settle_based(&mut self, alloc: Global, scene: Scene, place: Place) -> Result<(), AllocError>
+    fn settle_based(
+        &mut self,
+        alloc: Global,
+        scene: Scene,
+        bases: &Bases,
+        place: Place,
+    ) -> Result<(), AllocError>
+        requires { AreBases scene self.old.tables.items bases.now }
         ensures { OnOk result (SettlesBased scene.entry place self.old self.new) }
     {
-        match self.base(alloc, scene, place)? {
+        match self.base(alloc, scene, bases, place)? {
             Some(number) => {
                 self.set_taken(place, number);
                 Ok(())
@@ -322,12 +359,22 @@ impl Settled {
     }
 
     /// What the base of a variant takes, where it is one callable without a parameter of deferred size.
-    fn base(&self, alloc: Global, scene: Scene, place: Place) -> Result<Option<usize>, AllocError>
+    fn base(
+        &self,
+        alloc: Global,
+        scene: Scene,
+        bases: &Bases,
+        place: Place,
+    ) -> Result<Option<usize>, AllocError>
+        requires { AreBases scene self.now.tables.items bases.now }
         ensures { IfOk result (λ number. number ≡ base_number scene.entry.names.now self.now.tables.items
             scene.entry.written.now self.now.taken.items place.«module» (takes_at scene.entry.written.now place)) }
     {
         match takes_at(scene, place) {
             Some(Takes::Based(name)) => {
+                if let Some(base) = bases.at(place) {
+                    return Ok(self.number_on(scene, &base.found, base.likely));
+                }
                 let found = found(alloc, self.view(scene), place.module, &name.form, false)?;
                 let base = likely(&self.tables, place.module, &found);
                 Ok(self.number_on(scene, &found, base))
@@ -502,7 +549,7 @@ fn key_of(table: &Table, entity: &Entity, taken: Option<usize>) -> Option<(usize
     }
 }
 
-fn taken_at(taken: &[Option<usize>], index: usize) -> Option<usize>
+pub fn taken_at(taken: &[Option<usize>], index: usize) -> Option<usize>
     ensures { result ≡ slice_index_or taken.now index None }
 {
     match taken.get(index) {
@@ -554,39 +601,6 @@ fn known_type(alloc: Global, name: &str) -> Result<Ty, AllocError>
     })
 }
 
-/// The one of these that isn't a prototype of the module, or else the only one. None where there are others, or none.
-fn likely(tables: &[Table], module: usize, found: &[Place]) -> Option<Place>
-    ensures { result ≡ likely_base tables.now «module» found.now }
-{
-    if let [only] = found {
-        return Some(*only);
-    }
-    only_other(tables, module, found)
-}
-
-fn only_other(tables: &[Table], module: usize, found: &[Place]) -> Option<Place>
-    ensures { result ≡ only_place (others_of tables.now «module» found.now) }
-{
-    let mut first = None;
-    let mut more = false;
-    for index in 0..found.len() {
-        if !is_own_prototype(tables, module, found[index]) {
-            more = first.is_some();
-            first = first.or(Some(found[index]));
-        }
-    }
-    if more { None } else { first }
-}
-
-fn is_own_prototype(tables: &[Table], module: usize, place: Place) -> bool
-    ensures { result ≡ is_own_prototype tables.now «module» place }
-{
-    match entity_at(tables, place) {
-        Some(entity) => is_prototype(entity.sort) && place.module == module,
-        None => false,
-    }
-}
-
 fn is_same_place(one: Place, other: Place) -> bool
     ensures { result ≡ same_place one other }
 {
@@ -617,7 +631,7 @@ fn is_definition(sort: Sort) -> bool
     }
 }
 
-fn is_prototype(sort: Sort) -> bool
+pub fn is_prototype(sort: Sort) -> bool
     ensures { result ≡ is_prototype sort }
 {
     match sort {

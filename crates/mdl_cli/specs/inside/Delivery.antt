@@ -14,8 +14,8 @@ use Rattle.mdl_lexer.specs.declared.token.LexFault.{LexFault}
 use Rattle.mdl_lexer.specs.declared.token.LexFault.TheVariants as lexical
 use Rattle.module_set.specs.declared.set.ModuleSet.{ModuleSet}
 use Rattle.module_set.specs.Members.{Member, members_of}
-use Rattle.scope_core.specs.declared.looked.ScopeFault.{ScopeFault}
-use Rattle.scope_core.specs.declared.looked.ScopeFault.TheVariants as scoping
+use Rattle.scope_core.specs.declared.fault.ScopeFault.{ScopeFault}
+use Rattle.scope_core.specs.declared.fault.ScopeFault.TheVariants as scoping
 use Rattle.scope_core.specs.ScopeFaults.{scope_faults, fault_key}
 use Rattle.module_loader.specs.declared.fault.LoadFault.{LoadFault}
 use Rattle.module_loader.specs.declared.fault.LoadFault.TheVariants as fault

@@ -3,11 +3,11 @@ use Rattle.std.specs.Prelude.{ℕ, suc, List, [], ◌∷◌, ◌++◌, Option, S
 use Rattle.std.specs.List.{flat_map}
 use Rattle.mdl_syntax.specs.declared.modules.Module.{Module}
 use Rattle.mdl_syntax.specs.Modules.{module_of}
-use Rattle.scope_core.specs.declared.declared.Written.{Written}
-use Rattle.scope_core.specs.declared.looked.ScopeFault.{ScopeFault}
-use Rattle.scope_core.specs.Entities.{Declared}
-use Rattle.scope_core.specs.Brought.{Bringing}
-use Rattle.scope_core.specs.Visible.{World}
+use Rattle.scope_tables.specs.declared.declared.Written.{Written}
+use Rattle.scope_core.specs.declared.fault.ScopeFault.{ScopeFault}
+use Rattle.scope_tables.specs.Entities.{Declared}
+use Rattle.scope_tables.specs.Brought.{Bringing}
+use Rattle.scope_tables.specs.Visible.{World}
 use Rattle.scope_core.specs.ScopeFaults.{import_faults, twice_among, parameter_faults}
 use Rattle.scope_core.specs.inside.Rounds.{last_types, last_standing}
 

@@ -2,16 +2,17 @@
 use Rattle.std.specs.Prelude.{◌≡◌, ℕ, ◌<◌, true, Bool, List, [], ◌∷◌, map, length, take, slice_get, Some}
 use Rattle.scope_core.specs.declared.settled.Settled.{Settled}
 use Rattle.scope_core.specs.declared.settled.Scene.{Scene}
-use Rattle.scope_core.specs.Entities.{Declared}
-use Rattle.scope_core.specs.Visible.{World}
-use Rattle.scope_core.specs.inside.Finding.{placed}
-use Rattle.scope_core.specs.inside.Order.{IsOrder}
-use Rattle.scope_core.specs.inside.Reaching.{froms}
+use Rattle.scope_tables.specs.Entities.{Declared}
+use Rattle.scope_tables.specs.Visible.{World}
+use Rattle.scope_tables.specs.inside.Finding.{placed}
+use Rattle.scope_tables.specs.inside.Order.{IsOrder}
+use Rattle.scope_tables.specs.inside.Reaching.{froms}
 use Rattle.scope_core.specs.inside.Rounds.{Describes, Settles, IsReady, WrittenAreSettled, BegunAreSettled, is_settled}
 
 -- the entities of a module before an index are settled
 pub record VariantsSome (scene : Scene) (m count i : ℕ) (begun : List Bool) (old now : Settled) : Type 0 where
   pub long : length begun ≡ count
+  pub tables : now.tables ≡ old.tables
   pub settles : (world : World) (pieces : List (List Declared)) (closed : List ℕ) (piece : List Declared)
       → Describes world pieces scene → Settles world pieces closed old → IsReady world closed m
       → slice_get pieces m ≡ Some piece → length piece ≡ count → WrittenAreSettled pieces m old.taken.items

@@ -3,10 +3,10 @@ use Rattle.std.specs.Prelude.{◌≡◌, ℕ, ◌<◌, ◌==◌, ◌&&◌, Bool,
 use Rattle.std.specs.Prelude.{length, slice_get, slice_index_or, if◌then◌else◌}
 use Rattle.std.specs.List.{list_any}
 use Rattle.case_table.specs.Lists.{with_first}
-use Rattle.scope_core.specs.declared.entity.Entity.{Entity}
-use Rattle.scope_core.specs.declared.entity.Sort.{Sort}
+use Rattle.scope_tables.specs.declared.entity.Entity.{Entity}
+use Rattle.scope_tables.specs.declared.entity.Sort.{Sort}
 use Rattle.scope_core.specs.Standing.{is_prototype, is_definition}
-use Rattle.scope_core.specs.inside.Owning.{number_in}
+use Rattle.scope_tables.specs.inside.Owning.{number_in}
 
 -- the number of an entity's name in its module, and of what it takes
 abbrev pub key_of : List Entity → Entity → Option ℕ → Option (ℕ × ℕ)

@@ -1,6 +1,6 @@
 -- The least of faults, as they come.
 use Rattle.std.specs.Prelude.{List, [], ◌∷◌, Option, Some, None, if◌then◌else◌}
-use Rattle.scope_core.specs.declared.looked.ScopeFault.{ScopeFault}
+use Rattle.scope_core.specs.declared.fault.ScopeFault.{ScopeFault}
 use Rattle.scope_core.specs.ScopeFaults.{is_less}
 
 abbrev pub lesser : Option ScopeFault → ScopeFault → Option ScopeFault

@@ -1,28 +1,25 @@
 -- What is noted of the entities and imported names of a module, as its faults are found.
 use Rattle.std.specs.Prelude.{◌≡◌, ◌<◌, ℕ, ◌==◌, ◌&&◌, ◌||◌, not, Bool, true, false, List, [], ◌∷◌, ◌++◌, map}
 use Rattle.std.specs.Prelude.{Option, Some, None}
-use Rattle.std.specs.Prelude.{if◌then◌else◌, length, slice_set, slice_index_or, slice_get}
+use Rattle.std.specs.Prelude.{if◌then◌else◌, length, slice_set, slice_index_or}
 use Rattle.std.specs.List.{list_any, flat_map}
 use Rattle.std.specs.Map.{lookup}
 use Rattle.case_table.specs.Lists.{with_first}
 use Rattle.std.specs.Bool.{beq}
 use Rattle.mdl_syntax.specs.declared.names.Ident.{Ident}
-use Rattle.scope_core.specs.declared.entity.Entity.{Entity}
 use Rattle.scope_core.specs.declared.faults.Earlier.{Earlier}
 use Rattle.scope_core.specs.declared.settled.Settled.{Settled}
-use Rattle.scope_core.specs.declared.entity.Sort.{Sort}
-use Rattle.scope_core.specs.declared.kinds.Kinds.{Kinds}
-use Rattle.scope_core.specs.declared.looked.ScopeFault.{ScopeFault}
-use Rattle.scope_core.specs.declared.tables.Table.{Table}
-use Rattle.scope_core.specs.Entities.{Declared}
-use Rattle.scope_core.specs.Brought.{Bringing, bringing}
-use Rattle.scope_core.specs.Visible.{World}
+use Rattle.scope_tables.specs.declared.entity.Sort.{Sort}
+use Rattle.scope_tables.specs.declared.kinds.Kinds.{Kinds}
+use Rattle.scope_core.specs.declared.fault.ScopeFault.{ScopeFault}
+use Rattle.scope_tables.specs.Entities.{Declared}
+use Rattle.scope_tables.specs.Brought.{Bringing, bringing}
+use Rattle.scope_tables.specs.Visible.{World}
 use Rattle.scope_core.specs.Standing.{is_prototype}
 use Rattle.scope_core.specs.ScopeFaults.{unknown, not_exported, name_faults, listed_by, listed_before, exported_of}
-use Rattle.scope_core.specs.inside.Finding.{is_hidden}
-use Rattle.scope_core.specs.inside.Kinds.{no_kinds, kinds_of, both, kinds_among, has_none, go_together}
+use Rattle.scope_tables.specs.inside.Kinds.{no_kinds, kinds_of, both, kinds_among, has_none, go_together}
 use Rattle.scope_core.specs.inside.Lessening.{lesser, least_onto}
-use Rattle.scope_core.specs.inside.Owning.{same_text, indices_of}
+use Rattle.scope_tables.specs.inside.Owning.{same_text}
 use Rattle.scope_core.specs.inside.Rounds.{AreSettled, last_standing}
 
 -- what is known of an entity: the numbers of its name and of what it takes, and whether it is a prototype
@@ -48,27 +45,6 @@ pub record NotesDeclared (name taken : ℕ) (sort : Sort) (fault : ScopeFault) (
       → after ≡ (if is_twice (kinds_at kinds name) (both (kinds_at kinds name) (kinds_of sort))
       (not (list_any (same_mark (name, taken, is_prototype sort)) seen))
       then lesser least fault else least)
-
--- the sort of what stands at an index, if it counts
-abbrev pub kinds_if : Table → Bool → ℕ → Option Entity → Kinds
-kinds_if table exported i None = no_kinds
-kinds_if table exported i (Some entity) =
-    if not (is_hidden table i) && (not exported || entity.exported) then kinds_of entity.sort else no_kinds
-
-abbrev pub kinds_there : Table → Bool → ℕ → Kinds
-kinds_there table exported i = kinds_if table exported i (slice_get table.own i)
-
-abbrev pub kinds_of_all : Table → Bool → List ℕ → Kinds
-kinds_of_all table exported [] = no_kinds
-kinds_of_all table exported (i ∷ more) = both (kinds_there table exported i) (kinds_of_all table exported more)
-
-abbrev pub kinds_in : Option Table → List ℕ → Bool → Kinds
-kinds_in None name exported = no_kinds
-kinds_in (Some table) name exported = kinds_of_all table exported (indices_of table.own name)
-
--- the sorts of what stands under a name of a module, or of what is exported of it
-abbrev pub kinds_under : List Table → ℕ → List ℕ → Bool → Kinds
-kinds_under tables m name exported = kinds_in (slice_get tables m) name exported
 
 -- a name that names nothing, or nothing that is exported
 abbrev pub missing_by : ℕ → ℕ → Bool → Bool → List ScopeFault

@@ -6,22 +6,23 @@ use Rattle.std.specs.List.{list_any, list_all, flat_map}
 use Rattle.std.specs.declared.vec.Vec.{Vec}
 use Rattle.std.specs.declared.alloc.Global.{Global}
 use Rattle.type_rules.specs.declared.ty.Ty.{Ty}
-use Rattle.scope_core.specs.declared.declared.Takes as held_takes
+use Rattle.scope_tables.specs.declared.declared.Takes as held_takes
 use Rattle.scope_core.specs.declared.settled.Settled.{Settled}
 use Rattle.scope_core.specs.declared.settled.Scene.{Scene}
-use Rattle.scope_core.specs.declared.tables.Table.{Table}
-use Rattle.scope_core.specs.declared.tables.Place.{Place}
-use Rattle.scope_core.specs.Entities.{Declared, Takes, listed, known, based}
-use Rattle.scope_core.specs.PreludeEntities.{prelude}
-use Rattle.scope_core.specs.Brought.{Bringing}
-use Rattle.scope_core.specs.Visible.{World, brought_at}
+use Rattle.scope_tables.specs.declared.tables.Table.{Table}
+use Rattle.scope_tables.specs.declared.tables.Place.{Place}
+use Rattle.scope_tables.specs.Entities.{Declared, Takes, listed, known, based}
+use Rattle.scope_tables.specs.PreludeEntities.{prelude}
+use Rattle.scope_tables.specs.Brought.{Bringing}
+use Rattle.scope_tables.specs.Visible.{World, brought_at}
 use Rattle.scope_core.specs.Standing.{is_prototype, share_name, stands, types_after, standing_after}
-use Rattle.scope_core.specs.inside.Order.{is_among, IsOrder}
-use Rattle.scope_core.specs.inside.Finding.{placed, is_hidden}
+use Rattle.scope_tables.specs.inside.Order.{is_among, IsOrder}
+use Rattle.scope_tables.specs.inside.Finding.{placed, is_hidden}
 use Rattle.scope_core.specs.inside.Holding.{Hold}
-use Rattle.scope_core.specs.inside.Reaching.{froms}
-use Rattle.scope_core.specs.inside.Pieces.{takes_of}
+use Rattle.scope_tables.specs.inside.Reaching.{froms}
+use Rattle.scope_tables.specs.inside.Pieces.{takes_of}
 use Rattle.scope_core.specs.inside.Scoping.{AreWritten}
+use Rattle.scope_core.specs.inside.Sums.{AreSums}
 use Rattle.scope_core.specs.inside.Settling.{taken_at, takes_at, next_of}
 
 -- the entity at a place
@@ -214,7 +215,7 @@ abbrev pub last_standing : World → List (List Declared) → List Declared
 last_standing world pieces = standing_after world (entities_in pieces) (length (entities_in pieces))
 
 -- each entity is settled by what it takes, and hidden is what doesn't stand
-pub record AreSettled (world : World) (pieces : List (List Declared)) (settled : Settled) : Type 0 where
+pub record AreClosed (world : World) (pieces : List (List Declared)) (settled : Settled) : Type 0 where
   pub hold : Hold world settled.tables.items pieces
   pub apart : (i j : ℕ) → i < length settled.lists.keys → j < length settled.lists.keys
       → slice_index_or settled.lists.keys i [] ≡ slice_index_or settled.lists.keys j [] → i ≡ j
@@ -225,8 +226,13 @@ pub record AreSettled (world : World) (pieces : List (List Declared)) (settled :
       → declared_at pieces (placed m i) ≡ Some one
       → is_hidden table i ≡ not (stands (last_types world pieces) (entities_in pieces) one)
 
+-- and it is known what stands under each name
+pub record AreSettled (world : World) (pieces : List (List Declared)) (settled : Settled) : Type 0 where
+  pub closed : AreClosed world pieces settled
+  pub sums : AreSums settled.tables.items settled.sums.items
+
 -- the prelude and all modules are settled, in an order in which each stands behind those that it imports
 pub record SettlesModules (scene : Scene) (order : List ℕ) (old new : Settled) : Type 0 where
   pub settles : (world : World) (pieces : List (List Declared)) → Describes world pieces scene
       → Settles world pieces [] old → length world.brings ≡ length world.names
-      → IsOrder (map froms world.brings) order → AreSettled world pieces new
+      → IsOrder (map froms world.brings) order → AreClosed world pieces new

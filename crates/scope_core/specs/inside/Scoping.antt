@@ -5,14 +5,14 @@ use Rattle.mdl_syntax.specs.declared.modules.Module.{Module}
 use Rattle.mdl_syntax.specs.Modules.{module_of}
 use Rattle.module_set.specs.declared.module_name.ModuleName.{ModuleName}
 use Rattle.scope_core.specs.declared.scopes.Scopes.{Scopes}
-use Rattle.scope_core.specs.declared.declared.Piece.{Piece}
-use Rattle.scope_core.specs.declared.declared.Written.{Written}
-use Rattle.scope_core.specs.declared.tables.Table.{Table}
-use Rattle.scope_core.specs.Entities.{Declared, entities_from}
-use Rattle.scope_core.specs.Brought.{Bringing, brought_by}
-use Rattle.scope_core.specs.Visible.{World}
+use Rattle.scope_tables.specs.declared.declared.Piece.{Piece}
+use Rattle.scope_tables.specs.declared.declared.Written.{Written}
+use Rattle.scope_tables.specs.declared.tables.Table.{Table}
+use Rattle.scope_tables.specs.Entities.{Declared, entities_from}
+use Rattle.scope_tables.specs.Brought.{Bringing, brought_by}
+use Rattle.scope_tables.specs.Visible.{World}
 use Rattle.scope_core.specs.inside.Holding.{Hold, AreTables, open_pieces}
-use Rattle.scope_core.specs.inside.Pieces.{IsPiece, IsWritten}
+use Rattle.scope_tables.specs.inside.Pieces.{IsPiece, IsWritten}
 
 -- the names of modules with what they bring, and entities that stand
 pub record Holds (scopes : Scopes) (world : World) (entities : List Declared) : Type 0 where

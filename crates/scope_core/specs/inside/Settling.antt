@@ -7,16 +7,16 @@ use Rattle.std.specs.declared.alloc.Global.{Global}
 use Rattle.std.specs.Prelude.{if◌then◌else◌}
 use Rattle.std.specs.List.{list_all}
 use Rattle.module_set.specs.declared.module_name.ModuleName.{ModuleName}
-use Rattle.scope_core.specs.declared.declared.Takes as held_takes
-use Rattle.scope_core.specs.declared.declared.Takes.TheVariants as held
-use Rattle.scope_core.specs.declared.declared.Written.{Written}
-use Rattle.scope_core.specs.declared.entity.Entity.{Entity}
-use Rattle.scope_core.specs.declared.tables.Table.{Table}
-use Rattle.scope_core.specs.declared.tables.Place.{Place}
+use Rattle.scope_tables.specs.declared.declared.Takes as held_takes
+use Rattle.scope_tables.specs.declared.declared.Takes.TheVariants as held
+use Rattle.scope_tables.specs.declared.declared.Written.{Written}
+use Rattle.scope_tables.specs.declared.entity.Entity.{Entity}
+use Rattle.scope_tables.specs.declared.tables.Table.{Table}
+use Rattle.scope_tables.specs.declared.tables.Place.{Place}
 use Rattle.scope_core.specs.Standing.{is_prototype, is_definition}
-use Rattle.scope_core.specs.Types.{is_callable, has_deferred}
-use Rattle.scope_core.specs.inside.Finding.{entity_at, found_places}
-use Rattle.scope_core.specs.inside.Pieces.{takes_of}
+use Rattle.scope_tables.specs.Types.{is_callable, has_deferred}
+use Rattle.scope_tables.specs.inside.Finding.{entity_at, found_places}
+use Rattle.scope_tables.specs.inside.Pieces.{takes_of}
 
 abbrev pub takes_in : Option Written → ℕ → Option held_takes.Takes
 takes_in None i = None

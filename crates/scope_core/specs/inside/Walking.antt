@@ -2,14 +2,14 @@
 use Rattle.std.specs.Prelude.{◌≡◌, ℕ, suc, ◌+◌, ◌<◌, ◌==◌, ◌||◌, not, Bool, true, false, List, [], ◌∷◌, Option}
 use Rattle.std.specs.Prelude.{Some, None, length, slice_get, slice_set, slice_index_or, if◌then◌else◌}
 use Rattle.std.specs.List.{list_any}
-use Rattle.scope_core.specs.declared.declared.Written.{Written}
+use Rattle.scope_tables.specs.declared.declared.Written.{Written}
 use Rattle.scope_core.specs.declared.settled.Settled.{Settled}
 use Rattle.scope_core.specs.declared.settled.Scene.{Scene}
-use Rattle.scope_core.specs.declared.tables.Table.{Table}
-use Rattle.scope_core.specs.declared.tables.Place.{Place}
-use Rattle.scope_core.specs.Entities.{Declared}
-use Rattle.scope_core.specs.Visible.{World}
-use Rattle.scope_core.specs.inside.Finding.{placed}
+use Rattle.scope_tables.specs.declared.tables.Table.{Table}
+use Rattle.scope_tables.specs.declared.tables.Place.{Place}
+use Rattle.scope_tables.specs.Entities.{Declared}
+use Rattle.scope_tables.specs.Visible.{World}
+use Rattle.scope_tables.specs.inside.Finding.{placed}
 use Rattle.scope_core.specs.inside.Settling.{same_place, takes_at, next_of}
 use Rattle.scope_core.specs.inside.Rounds.{declared_at, is_settled, Describes, Settles, IsReady, Stays}
 use Rattle.scope_core.specs.inside.Rounds.{WrittenAreSettled}

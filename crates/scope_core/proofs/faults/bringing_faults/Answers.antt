@@ -1,7 +1,7 @@
 use Rattle.std.proofs.Common.{sym, ap, subst}
-use Rattle.scope_core.specs.Brought.{bringing}
+use Rattle.scope_tables.specs.Brought.{bringing}
 use Rattle.scope_core.specs.inside.Noting.{NotesBringing}
-use Rattle.scope_core.specs.inside.Reaching.{names_of}
+use Rattle.scope_tables.specs.inside.Reaching.{names_of}
 use Rattle.scope_core.proofs.ImportLaws.{brings-name, brings-names}
 use Rattle.scope_core.proofs.faults.bringing_faults.Goals as goal
 

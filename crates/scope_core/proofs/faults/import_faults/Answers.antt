@@ -1,6 +1,6 @@
 use Rattle.std.proofs.Common.{◌≡◌, ◌∙◌, ◌+◌, ◌++◌, ◌∷◌, [], sym, ap, subst, map, take}
 use Rattle.std.proofs.lemmas.List.{take_more, map-append}
-use Rattle.scope_core.specs.inside.Reaching.{bringing_of}
+use Rattle.scope_tables.specs.inside.Reaching.{bringing_of}
 use Rattle.scope_core.proofs.ImportLaws.{AreBrought, brought-push}
 use Rattle.scope_core.proofs.faults.import_faults.Goals as goal
 

@@ -1,6 +1,6 @@
 -- what was noted is what is wrong with the bringings before
 use Rattle.std.proofs.Common.{map, take}
-use Rattle.scope_core.specs.inside.Reaching.{bringing_of}
+use Rattle.scope_tables.specs.inside.Reaching.{bringing_of}
 use Rattle.scope_core.proofs.ImportLaws.{AreBrought}
 use Rattle.scope_core.proofs.faults.import_faults.Given as goal
 

@@ -4,7 +4,7 @@ use Rattle.std.proofs.lemmas.List.{append_assoc}
 use Rattle.mdl_syntax.specs.Modules.{declaration_of}
 use Rattle.scope_core.specs.ScopeFaults.{import_faults, twice_among, parameter_faults}
 use Rattle.scope_core.specs.inside.Lessening.{least_onto}
-use Rattle.scope_core.specs.inside.Reaching.{bringing_of}
+use Rattle.scope_tables.specs.inside.Reaching.{bringing_of}
 use Rattle.scope_core.specs.inside.Rounds.{last_types, last_standing}
 use Rattle.scope_core.proofs.ListedLaws.{least_onto-append}
 use Rattle.scope_core.proofs.faults.module_fault.Goals as goal

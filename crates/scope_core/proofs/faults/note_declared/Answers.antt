@@ -3,7 +3,7 @@ use Rattle.std.specs.List.{list_any}
 use Rattle.std.proofs.lemmas.Bool.{cond-true, cond-false}
 use Rattle.case_table.specs.Lists.{with_first}
 use Rattle.scope_core.specs.Standing.{is_prototype}
-use Rattle.scope_core.specs.inside.Kinds.{both, kinds_of}
+use Rattle.scope_tables.specs.inside.Kinds.{both, kinds_of}
 use Rattle.scope_core.specs.inside.Lessening.{lesser}
 use Rattle.scope_core.specs.inside.Noting.{is_twice, kinds_at, same_mark}
 use Rattle.scope_core.proofs.TwiceLaws.{prototype-is}

@@ -1,6 +1,6 @@
 use Rattle.std.proofs.Common.{◌∙◌, Some, IsSome, sym, ap, refl, subst}
 use Rattle.std.specs.Map.{lookup}
-use Rattle.scope_core.specs.inside.Owning.{same_text}
+use Rattle.scope_tables.specs.inside.Owning.{same_text}
 use Rattle.scope_core.specs.inside.Noting.{joined}
 use Rattle.scope_core.proofs.faults.note_listed.Goals as goal
 

@@ -5,7 +5,7 @@ use Rattle.std.proofs.lemmas.List.{with_items_is}
 use Rattle.scope_core.specs.ScopeFaults.{twice}
 use Rattle.scope_core.specs.inside.Rounds.{last_types}
 use Rattle.scope_core.specs.inside.Noting.{NotesDeclared}
-use Rattle.scope_core.specs.inside.Owning.{number_in}
+use Rattle.scope_tables.specs.inside.Owning.{number_in}
 use Rattle.scope_core.proofs.TwiceLaws.{AreNoted, noted-step, noted-all, place-there, taken-there}
 use Rattle.scope_core.proofs.faults.twice_in.Goals as goal
 use Rattle.scope_core.proofs.faults.twice_in.Goals.{in-Some+in-Some-taken+in_ok-note_declared}

@@ -1,7 +1,7 @@
 -- what was noted is what comes before
 use Rattle.std.proofs.Common.{◌≡◌, List, Some, map, take, slice_get}
-use Rattle.scope_core.specs.Entities.{Declared}
-use Rattle.scope_core.specs.Visible.{World}
+use Rattle.scope_tables.specs.Entities.{Declared}
+use Rattle.scope_tables.specs.Visible.{World}
 use Rattle.scope_core.specs.inside.Rounds.{AreSettled, last_types}
 use Rattle.scope_core.proofs.TwiceLaws.{AreNoted}
 use Rattle.scope_core.proofs.faults.twice_in.Given as goal

@@ -3,7 +3,7 @@ use Rattle.std.specs.List.{list_any}
 use Rattle.std.proofs.lemmas.Bool.{not-true, not-false}
 use Rattle.std.proofs.lemmas.List.{take_more, map-append}
 use Rattle.case_table.specs.Lists.{with_first}
-use Rattle.scope_core.specs.inside.Owning.{same_text}
+use Rattle.scope_tables.specs.inside.Owning.{same_text}
 use Rattle.scope_core.proofs.ListedLaws.{AreListed, listed-known, listed-new}
 use Rattle.scope_core.proofs.faults.twice_listed.Goals as goal
 use Rattle.scope_core.proofs.faults.twice_listed.Goals.{then-not-branch, else-not-branch}

@@ -3,8 +3,8 @@ use Rattle.std.proofs.lemmas.Bool.{ltb-true, ltb-false}
 use Rattle.std.proofs.lemmas.List.{map-append}
 use Rattle.case_table.specs.Lists.{firsts}
 use Rattle.module_set.specs.Names.{same_name}
-use Rattle.scope_core.specs.Brought.{brought_by}
-use Rattle.scope_core.specs.inside.Reaching.{bringing_of}
+use Rattle.scope_tables.specs.Brought.{brought_by}
+use Rattle.scope_tables.specs.inside.Reaching.{bringing_of}
 use Rattle.scope_core.proofs.ScopingLaws.{brought_more, brought_past, brought_end}
 use Rattle.scope_core.proofs.scopes.brought_of_all.Goals.{in-Some+in_ok-one+in_ok-push, in_default}
 use Rattle.scope_core.proofs.scopes.brought_of_all.Goals as goal

@@ -2,7 +2,7 @@
 use Rattle.std.proofs.Common.{map}
 use Rattle.case_table.specs.Lists.{firsts}
 use Rattle.module_set.specs.Names.{same_name}
-use Rattle.scope_core.specs.inside.Reaching.{bringing_of}
+use Rattle.scope_tables.specs.inside.Reaching.{bringing_of}
 use Rattle.scope_core.specs.inside.Scoping.{BroughtLeft}
 use Rattle.scope_core.proofs.scopes.brought_of_all.Given as goal
 

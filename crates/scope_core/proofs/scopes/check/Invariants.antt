@@ -1,8 +1,8 @@
 -- the modules before have no fault
 use Rattle.std.proofs.Common.{◌≡◌, ◌<◌, List, map, drop, length}
-use Rattle.scope_core.specs.Entities.{Declared}
-use Rattle.scope_core.specs.Visible.{World}
-use Rattle.scope_core.specs.inside.Reaching.{bringing_of}
+use Rattle.scope_tables.specs.Entities.{Declared}
+use Rattle.scope_tables.specs.Visible.{World}
+use Rattle.scope_tables.specs.inside.Reaching.{bringing_of}
 use Rattle.scope_core.specs.inside.Scoping.{AreWritten}
 use Rattle.scope_core.specs.inside.Rounds.{AreSettled}
 use Rattle.scope_core.specs.inside.Checking.{faults_in}

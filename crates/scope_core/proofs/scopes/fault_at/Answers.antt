@@ -2,9 +2,9 @@ use Rattle.std.proofs.Common.{◌≡◌, ◌∙◌, [], None, map, sym, subst, s
 use Rattle.std.proofs.lemmas.Bool.{ltb-true, ltb-false}
 use Rattle.std.specs.declared.vec.Vec.{Vec}
 use Rattle.std.specs.declared.alloc.Global.{Global}
-use Rattle.scope_core.specs.declared.brought.Bringing.{Bringing}
-use Rattle.scope_core.specs.Brought as held
-use Rattle.scope_core.specs.inside.Reaching.{bringing_of}
+use Rattle.scope_tables.specs.declared.brought.Bringing.{Bringing}
+use Rattle.scope_tables.specs.Brought as held
+use Rattle.scope_tables.specs.inside.Reaching.{bringing_of}
 use Rattle.scope_core.specs.inside.Lessening.{least_onto}
 use Rattle.scope_core.specs.inside.Checking.{faults_of}
 use Rattle.scope_core.proofs.CheckLaws.{piece-there, places-there, mapped-at, mapped-past}

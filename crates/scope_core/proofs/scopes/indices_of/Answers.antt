@@ -3,7 +3,7 @@ use Rattle.case_table.specs.Lists.{firsts, with_first}
 use Rattle.case_table.specs.ListLaws.{firsts-push}
 use Rattle.module_set.specs.Names.{same_name}
 use Rattle.scope_core.proofs.scopes.indices_of.Goals as goal
-use Rattle.scope_core.proofs.MemberLaws.{take-next}
+use Rattle.scope_tables.proofs.MemberLaws.{take-next}
 
 pub loop-name-preserved : goal.loop-name-preserved
 loop-name-preserved c =

@@ -1,9 +1,9 @@
 use Rattle.std.proofs.Common.{subst, arith, length, map, ap, sym, ◌∙◌}
 use Rattle.mdl_syntax.specs.declared.modules.Module.{Module}
 use Rattle.mdl_syntax.specs.Modules.{module_of, declaration_of}
-use Rattle.scope_core.specs.Entities.{declared_from}
-use Rattle.scope_core.specs.PreludeEntities.{prelude}
-use Rattle.scope_core.specs.inside.Pieces.{IsPiece}
+use Rattle.scope_tables.specs.Entities.{declared_from}
+use Rattle.scope_tables.specs.PreludeEntities.{prelude}
+use Rattle.scope_tables.specs.inside.Pieces.{IsPiece}
 use Rattle.scope_core.proofs.ScopingLaws.{pieces_more, pieces_end}
 use Rattle.scope_core.proofs.scopes.pieces_of.Goals as goal
 

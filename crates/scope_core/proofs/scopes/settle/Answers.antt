@@ -1,6 +1,6 @@
 use Rattle.std.proofs.Common.{◌∙◌, map, ap, sym, subst}
-use Rattle.scope_core.specs.inside.Order.{IsOrder}
-use Rattle.scope_core.specs.inside.Reaching.{froms}
+use Rattle.scope_tables.specs.inside.Order.{IsOrder}
+use Rattle.scope_tables.specs.inside.Reaching.{froms}
 use Rattle.scope_core.proofs.NewLaws.{sources-are}
 use Rattle.scope_core.proofs.scopes.settle.Goals as goal
 

@@ -1,6 +1,6 @@
 use Rattle.std.proofs.Common.{◌∙◌, ◌≡◌, ◌∷◌, [], sym, subst, map, slice_index_or}
 use Rattle.std.proofs.lemmas.List.{nil_from_length}
-use Rattle.scope_core.specs.inside.Reaching.{bringing_of, AreReaches}
+use Rattle.scope_tables.specs.inside.Reaching.{bringing_of, AreReaches}
 use Rattle.scope_core.specs.inside.Scoping.{Makes}
 use Rattle.scope_core.proofs.ScopingLaws.{makes_start, makes_more, makes_end}
 use Rattle.scope_core.proofs.scopes.tables_of.Goals as goal

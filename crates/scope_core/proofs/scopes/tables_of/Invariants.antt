@@ -1,6 +1,6 @@
 -- the tables of some pieces are made, and the others are left
 use Rattle.std.proofs.Common.{map}
-use Rattle.scope_core.specs.inside.Reaching.{bringing_of}
+use Rattle.scope_tables.specs.inside.Reaching.{bringing_of}
 use Rattle.scope_core.specs.inside.Scoping.{Makes}
 use Rattle.scope_core.proofs.scopes.tables_of.Given as goal
 

@@ -1,6 +1,6 @@
 use Rattle.std.proofs.Common.{sym, ap, ◌∙◌}
-use Rattle.scope_core.specs.Types.{has_deferred}
-use Rattle.scope_core.specs.inside.Pieces.{takes_of}
+use Rattle.scope_tables.specs.Types.{has_deferred}
+use Rattle.scope_tables.specs.inside.Pieces.{takes_of}
 use Rattle.scope_core.proofs.SettleLaws.{deferred-of}
 use Rattle.scope_core.proofs.settled.has_deferred.Goals as goal
 

@@ -1,8 +1,8 @@
 use Rattle.std.proofs.Common.{ap, ◌∙◌, true, false}
 use Rattle.std.specs.List.{filter_map}
-use Rattle.scope_core.specs.Visible.{look}
-use Rattle.scope_core.specs.inside.Finding.{entity_at, found_places}
-use Rattle.scope_core.specs.inside.Kinds.{looked_among}
+use Rattle.scope_tables.specs.Visible.{look}
+use Rattle.scope_tables.specs.inside.Finding.{entity_at, found_places}
+use Rattle.scope_tables.specs.inside.Kinds.{looked_among}
 use Rattle.scope_core.proofs.LookLaws.{look-is}
 use Rattle.scope_core.proofs.scopes.Scopes.look.Goals as goal
 

@@ -5,10 +5,10 @@ use Rattle.case_table.specs.Lists.{firsts}
 use Rattle.module_set.specs.Names.{same_name}
 use Rattle.module_set.specs.Cycles.{HasNoCycle}
 use Rattle.module_set.specs.Members.{members_of}
-use Rattle.scope_core.specs.declared.brought.Bringing as held
+use Rattle.scope_tables.specs.declared.brought.Bringing as held
 use Rattle.scope_core.specs.Standing.{world_of, pieces_of}
 use Rattle.scope_core.specs.ScopeFaults.{scope_faults, Fails}
-use Rattle.scope_core.specs.inside.Order.{AreWithin}
+use Rattle.scope_tables.specs.inside.Order.{AreWithin}
 use Rattle.scope_core.specs.inside.Scoping.{AreMade, brought_all}
 use Rattle.scope_core.specs.inside.Checking.{faults_in}
 use Rattle.scope_core.proofs.SetLaws.{brings-are, links-within}
@@ -119,7 +119,7 @@ returns-clause-holds c =
     record {
       names = c.in_ok-names.ensures ∙ c.list.ensures;
       pieces = pieces_of (members_of set);
-      hold = whole.2.hold;
+      hold = whole.2.closed.hold;
       stand = opens-stand (world_of set.names (members_of set)) (pieces_of (members_of set)) c.in_ok-settled.settled
           whole.2;
     }

@@ -1,6 +1,6 @@
-use Rattle.std.proofs.Common.{◌∙◌, false, sym, ap, Some}
+use Rattle.std.proofs.Common.{◌∙◌, false, sym, ap, Some, option_map}
 use Rattle.scope_core.specs.inside.Settling.{likely_base, next_of}
-use Rattle.scope_core.specs.inside.Finding.{found_places}
+use Rattle.scope_tables.specs.inside.Finding.{found_places}
 use Rattle.scope_core.proofs.settled.Settled.next_base.Goals as goal
 
 pub returns-in_ok-found-in-Some-Based : goal.returns-in_ok-found-in-Some-Based
@@ -15,3 +15,10 @@ returns-in_ok-found-in-Some-Based c =
     (sym c.in-Some-Based.field-0-is)
     ∙ ap (next_of c.args.scene.names.now tables c.args.place.«module»)
     (sym c.in-Some-Based.is ∙ c.takes_at.ensures)
+
+pub returns-in-Some : goal.returns-in-Some
+returns-in-Some c =
+    let takes = ap Some (sym c.in-Some-Based.field-0-is) ∙ (sym c.in-Some-Based.is ∙ c.takes_at.ensures) in
+    let kept = c.requires.are c.args.place c.in-Some.base.now _
+    (sym c.at.ensures ∙ ap (option_map (λ base. base.now)) c.in-Some.is) (sym takes) in
+    kept.likely_is ∙ ap (next_of c.args.scene.names.now c.args.self.now.tables.items c.args.place.«module») takes

@@ -2,13 +2,13 @@ use Rattle.std.proofs.Common.{◌∙◌, sym, subst, length}
 use Rattle.std.proofs.lemmas.Bool.{ltb-true, ltb-false}
 use Rattle.scope_core.specs.inside.Rounds.{SettlesListed, SettlesVariants, Closes}
 use Rattle.scope_core.proofs.ClosingLaws.{module-settled, module-none}
-use Rattle.scope_core.proofs.settled.Settled.settle_module.Goals.{in-Some+in_ok-settle_listed+in_ok-settle_variants}
+use Rattle.scope_core.proofs.settled.Settled.settle_module.Goals.{in-Some+in_ok-settle_listed+in_ok-bases+in_ok-settle_variants}
 use Rattle.scope_core.proofs.settled.Settled.settle_module.Goals.{in_default}
 use Rattle.scope_core.proofs.settled.Settled.settle_module.Goals as goal
 
 pub returns : goal.returns
 returns c = elim c.match-get.branch [
-  | in-Some+in_ok-settle_listed+in_ok-settle_variants w ↦
+  | in-Some+in_ok-settle_listed+in_ok-bases+in_ok-settle_variants w ↦
       module-settled c.args.scene c.args.module w.in-Some.written.now c.args.self.now w.settle_listed.new.self
       w.settle_variants.new.self c.hide.new.self (ltb-true _ _ (sym w.in-Some.ensures.lookup.0))
       w.in-Some.ensures.lookup.1

@@ -1,6 +1,6 @@
 use Rattle.std.proofs.Common.{◌≡◌, ◌∙◌, ◌++◌, ◌+◌, arith, take, drop, length, ap, sym, subst, Bool, List}
 use Rattle.std.proofs.Math.Seq.{take-append_seam}
-use Rattle.scope_core.specs.inside.Finding.{placed}
+use Rattle.scope_tables.specs.inside.Finding.{placed}
 use Rattle.scope_core.specs.inside.Rounds.{SettlesVariant}
 use Rattle.scope_core.specs.inside.Closing.{VariantsSome}
 use Rattle.scope_core.proofs.ClosingLaws.{variants-start, variants-more, variants-end}

@@ -1,8 +1,8 @@
 use Rattle.std.proofs.Common.{◌∙◌, ap, map}
 use Rattle.std.proofs.lemmas.Result.{on_ok_weaker}
 use Rattle.type_rules.specs.Types.{plain}
-use Rattle.scope_core.specs.inside.Pieces.{takes_of}
-use Rattle.scope_core.specs.inside.Typing.{types_at}
+use Rattle.scope_tables.specs.inside.Pieces.{takes_of}
+use Rattle.scope_tables.specs.inside.Typing.{types_at}
 use Rattle.scope_core.proofs.WrittenLaws.{listed-settles, known-settles}
 use Rattle.scope_core.proofs.settled.Settled.settle_written.Goals as goal
 

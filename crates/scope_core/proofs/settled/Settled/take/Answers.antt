@@ -16,7 +16,12 @@ returns c =
     let inside : c.in_ok-number.number < length c.insert_full.new.self.keys =
     slice_get_within c.insert_full.new.self.keys c.in_ok-number.number stored.0 stored.1 in
     let mid : Settled =
-    record { tables = c.args.self.now.tables; lists = c.insert_full.new.self; taken = c.args.self.now.taken } in
+    record {
+      tables = c.args.self.now.tables;
+      lists = c.insert_full.new.self;
+      taken = c.args.self.now.taken;
+      sums = c.args.self.now.sums;
+    } in
     grown-settles c.args.place c.args.types.items c.args.self.now mid c.set_taken.new.self refl refl
     (apart-more c.args.self.now.lists.keys c.insert_full.new.self.keys c.of.result c.in_ok-number.ensures.keys)
     (λ n list at. ap (λ keys. slice_get keys n) c.in_ok-number.ensures.keys

@@ -1,6 +1,0 @@
-use Rattle.std.proofs.Common.{◌≡◌, take}
-use Rattle.scope_core.specs.Visible.{texts}
-use Rattle.scope_core.proofs.found.are_same.Given as goal
-
-abbrev pub invariant-loop-index : goal.invariant-loop-index
-invariant-loop-index l = take l.index (texts l.front) ≡ take l.index l.parts

@@ -1,8 +1,0 @@
--- what was noted is what comes before
-use Rattle.std.proofs.Common.{map, take}
-use Rattle.scope_core.specs.inside.Owning.{AreOwn}
-use Rattle.scope_core.proofs.own.Own.of.Given as goal
-
-abbrev pub invariant-loop-index : goal.invariant-loop-index
-invariant-loop-index l =
-    AreOwn (take l.index l.entities.items) l.names.keys (map (λ list. list.items) l.lists.items)

@@ -1,5 +1,0 @@
-use Rattle.scope_core.proofs.PieceLaws.{appends_both}
-use Rattle.scope_core.proofs.prelude.push_large_structs.Goals as goal
-
-pub returns : goal.returns
-returns c = appends_both _ _ _ _ _ c.in_ok-push_struct.ensures c.in_ok-push_struct-2.ensures

@@ -1,8 +1,0 @@
--- the names before are taken
-use Rattle.std.proofs.Common.{take, Some}
-use Rattle.scope_core.specs.Visible.{lists}
-use Rattle.scope_core.specs.inside.Reaching.{Grows}
-use Rattle.scope_core.proofs.reach.Reach.take_names.Given as goal
-
-abbrev pub invariant-loop-name : goal.invariant-loop-name
-invariant-loop-name l = Grows l.initial.self (lists (Some (take l.name-index l.names))) l.used l.self

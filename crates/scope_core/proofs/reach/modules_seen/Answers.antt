@@ -1,6 +1,0 @@
-use Rattle.std.proofs.lemmas.List.Sorted.{IsNonDecreasingBy-from_sort}
-use Rattle.scope_core.proofs.reach.modules_seen.Goals as goal
-
-pub returns-clause-rise : goal.returns-clause-rise
-returns-clause-rise c =
-    IsNonDecreasingBy-from_sort (λ n. n) c.sort_unstable.new.self.items c.sort_unstable.ensures.sorted
