@@ -26,7 +26,7 @@ from random_sets import random_sets
 from texts import TOP
 
 CRATES = ("case_table", "io_edge", "mdl_lexer", "mdl_syntax", "expression_grammar", "module_grammar", "mdl_grammar",
-          "module_set", "module_loader", "type_rules", "scope_core", "scope_tests")
+          "module_set", "module_loader", "type_rules", "scope_tables", "scope_core", "scope_tests")
 TESTS = os.path.join("scope_tests", "src", "scope_tests.rt")
 SETS_OF_A_TEST = 200
 

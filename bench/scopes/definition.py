@@ -1,6 +1,7 @@
-"""The definitions of crates/scope_core/specs, sentence by sentence, over modules that `texts.py` reads.
+"""The definitions of names, in the `specs` of crates/scope_tables and crates/scope_core, sentence by sentence, over
+modules that `texts.py` reads.
 
-Nothing here is like the crate: there are no tables, no order of modules and no walk over bases. What is found is looked
+Nothing here is like the crates: there are no tables, no order of modules and no walk over bases. What is found is looked
 for among all entities, and what entities take and which of them are hidden comes in rounds, as many as there are
 entities.
 """
