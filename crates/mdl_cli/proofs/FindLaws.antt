@@ -39,7 +39,7 @@ use Rattle.mdl_cli.specs.Outcome.{asked, material_name, ok_text, names_in, Answe
 use Rattle.mdl_cli.specs.Outcome.{RefusesMembers}
 use Rattle.mdl_cli.specs.Headline.{RefusalLine}
 use Rattle.mdl_cli.specs.inside.Delivery.{HasCause, Finds, FindsIn, FindsInText, FindsInTexts, FindsInWords}
-use Rattle.mdl_cli.specs.inside.Delivery.{FindsAt, IsLine, IsText, Told, Given, Refuses, AreShort}
+use Rattle.mdl_cli.specs.inside.Delivery.{FindsAt, IsLine, IsText, Told, Refuses, AreShort}
 use Rattle.mdl_cli.specs.inside.Delivery.{WithoutWords, FindsTask, TellsScopes}
 use Rattle.mdl_cli.proofs.OutcomeLaws.{only_one}
 
@@ -48,11 +48,6 @@ pub told_line : (line : List ℕ) (result : Result (Vec ℕ Global) AllocError) 
     IfOk result (λ own. own.items ≡ line) → Told result found → IsLine line found
 told_line line (Ok own) found is told = subst (IsLine line) (sym told) is
 told_line line (Err error) found is told = subst (IsLine line) (sym told) tt
-
-pub told_text : (text : List ℕ) (result : Result (Vec ℕ Global) AllocError) (found : Answer) →
-    IfOk result (λ own. own.items ≡ text) → Given result found → IsText text found
-told_text text (Ok own) found is given = subst (IsText text) (sym given) is
-told_text text (Err error) found is given = subst (IsText text) (sym given) tt
 
 -- what is found in the words of a text is found in it
 pub words_found : (whole material bytes : List ℕ) (tokens : List Token) (found : Answer) → HasTokens bytes tokens →
@@ -302,15 +297,6 @@ fault_found request source after fault.TooMany found fails is =
     line_found request source after fault.TooMany found fails is
 fault_found request source after (fault.Cycle path) found fails is =
     line_found request source after (fault.Cycle path) found fails is
-
-pub refused_found : (request : Request) (source after : SourceState) (roots : List (List ℕ))
-    (first : List ModuleName) (stands : LoadFault) (found : Answer) → roots ≡ request.roots →
-    first ≡ asked request.task → FailsToLoad roots first source after stands → Refuses stands found →
-    FindsAt request source after found
-refused_found request source after roots first stands found same wanted fails is =
-    fault_found request source after stands found
-    (subst (λ first. FailsToLoad request.roots first source after stands) wanted
-    (subst (λ roots. FailsToLoad roots first source after stands) same fails)) is
 
 -- From a request to the words.
 

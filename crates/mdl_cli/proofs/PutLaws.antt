@@ -1,6 +1,6 @@
 -- Putting terms one after another.
 use Rattle.std.proofs.Common.{◌≡◌, ℕ, zero, suc, ◌+◌, ◌<◌, List, [], ◌∷◌, ◌++◌, Option, Some, length}
-use Rattle.std.proofs.Common.{map, take, take_all, ◌≤◌, true, slice_get, get_or, refl, sym, ap, ◌∙◌}
+use Rattle.std.proofs.Common.{map, take, ◌≤◌, true, slice_get, get_or, refl, sym, ap, ◌∙◌}
 use Rattle.std.proofs.Common.{subst, arith}
 use Rattle.std.specs.List.{flat_map, AllByRecursion}
 use Rattle.std.proofs.lemmas.Option.{get_or_from_slice_get, slice_get_within}
@@ -53,10 +53,6 @@ found-more terms more (id ∷ ids) (t ∷ ts) stays found =
     let others = found-more terms more ids ts stays parts.1 in
     cc
 
--- nothing is put yet
-pub put_none : (terms : List Term) → HasPut terms terms [] []
-put_none terms = record { terms = refl; found = refl }
-
 found-push : (terms : List Term) (ids : List ℕ) (ts : List Term) (id : ℕ) (t : Term) →
     map (slice_get terms) ids ≡ map Some ts → slice_get terms id ≡ Some t →
     map (slice_get terms) (ids ++ id ∷ []) ≡ map Some (ts ++ t ∷ [])
@@ -99,12 +95,6 @@ put_more before after more kids i kid ids more_ids id had within is onto at push
     (subst (λ (all : List ℕ). HasPut before more (map term_of (take i kids) ++ term_of kid ∷ []) all)
     (sym pushed)
     (put_push before after more (map term_of (take i kids)) ids id (term_of kid) had onto at))
-
--- all kids are put
-pub put_all : (before after : List Term) (kids : List Tree) (i : ℕ) (ids : List ℕ) → length kids ≤ i →
-    HasPut before after (map term_of (take i kids)) ids → HasPut before after (map term_of kids) ids
-put_all before after kids i ids whole had =
-    subst (λ (all : List Tree). HasPut before after (map term_of all) ids) (take_all i kids whole) had
 
 -- each of the kids is typed
 pub typed_at : (kids : List Tree) (i : ℕ) (kid : Tree) → AllByRecursion IsTyped (map term_of kids) →

@@ -1,7 +1,6 @@
-ghost use Rattle.std.specs.Prelude.{◌≡◌, ◌++◌, ◌≤◌, map, length, string_bytes, IfOk};
+ghost use Rattle.std.specs.Prelude.{◌≡◌, ◌≤◌, map, length, string_bytes, IfOk};
 ghost use Rattle.std.specs.List.{AllByRecursion};
 ghost use Rattle.type_rules.specs.Terms.{IsTyped};
-ghost use Rattle.module_set.specs.Names.{written_name};
 ghost use Rattle.module_set.specs.Members.{members_of};
 ghost use Rattle.module_set.specs.ModuleSets.{IsModuleSet};
 ghost use Rattle.scope_core.specs.Places.{HasPlace, IsAtName};
@@ -135,7 +134,11 @@ fn find_in(alloc: Global, task: &Task, set: &ModuleSet) -> Answer
     ensures { FindsIn task.now set.now result }
 {
     match Scopes::new(alloc, set) {
-        Ok(_scopes) => find_task(alloc, task, set),
+        Ok(scopes) => {
+            // Their memory serves what comes next.
+            drop(scopes);
+            find_task(alloc, task, set)
+        }
         Err(fault) => refuse_scope(alloc, set, fault),
     }
 }

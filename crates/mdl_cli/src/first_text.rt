@@ -1,9 +1,7 @@
 ghost use Rattle.std.specs.Prelude.{◌≡◌, ℕ, List, Err, IfOk};
-ghost use Rattle.std.specs.List.{list_any};
-ghost use Rattle.std.specs.Str.{bytes_eq};
 ghost use Rattle.type_rules.specs.Terms.{Term, IsTyped};
 ghost use Rattle.mdl_cli.specs.Words.{kinds_of};
-ghost use Rattle.mdl_cli.specs.FirstText.{AreFirstWords, versions};
+ghost use Rattle.mdl_cli.specs.FirstText.{AreFirstWords};
 ghost use Rattle.mdl_cli.specs.inside.Reading as reading;
 ghost use Rattle.mdl_cli.specs.inside.Trees.{term_of};
 ghost use Rattle.mdl_cli.specs.inside.Views.{words_left, name_found, first_found};

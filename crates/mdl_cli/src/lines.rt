@@ -2,7 +2,7 @@ ghost use Rattle.std.specs.Prelude.{◌≡◌, ◌++◌, codes, Some, IfOk, OnOk
 ghost use Rattle.std.specs.List.{flat_map};
 ghost use Rattle.module_set.specs.Names.{written_name};
 ghost use Rattle.mdl_cli.specs.Lines.{absent_line, name_end, lexical_line, grammar_line, cycle_line, load_line};
-ghost use Rattle.mdl_cli.specs.Lines.{too_many_line, material_unknown_line, site, site_word, place_end, place_word};
+ghost use Rattle.mdl_cli.specs.Lines.{material_unknown_line, site, site_word, place_end, place_word};
 ghost use Rattle.mdl_cli.specs.Lines.{word_end, scope_line};
 
 use crate::graph_text::push_number;

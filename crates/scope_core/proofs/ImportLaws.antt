@@ -1,6 +1,6 @@
 -- Laws of the faults of imports, one behind another.
 use Rattle.std.proofs.Common.{◌≡◌, ◌∙◌, ◌++◌, ◌∷◌, ◌==◌, ◌&&◌, not, [], ℕ, Bool, List}
-use Rattle.std.proofs.Common.{Option, Some, None, refl, sym, ap, subst}
+use Rattle.std.proofs.Common.{Option, Some, refl, sym, ap}
 use Rattle.std.specs.Prelude.{if◌then◌else◌}
 use Rattle.std.specs.List.{list_any, flat_map}
 use Rattle.std.specs.Str.{bytes_eq}
@@ -88,14 +88,6 @@ lists-none entities before last listings none =
     exported : ℕ → List ℕ → List Declared
     exported m name = exported_of entities m name
 
--- a bringing of all names
-pub brings-all : (settled : Settled) (m number from : ℕ) (used : Bool) (listings : Listings) (least : Option ScopeFault)
-    → NotesBringing settled m number (bringing None used from) listings least listings least
-brings-all settled m number from used listings least = record {
-  notes = λ world pieces before are same old.
-      (lists-none (last_standing world pieces) before (bringing None used from) listings refl old, refl);
-}
-
 -- a bringing of some names
 pub brings-names : (settled : Settled) (m number from : ℕ) (used : Bool) (names : List Ident) (old new : Listings)
     (least after : Option ScopeFault) → NotesNames settled m number from used names old least new after
@@ -120,16 +112,6 @@ pub record AreBrought (settled : Settled) (m number : ℕ) (bringings : List Bri
   pub noted : (world : World) (pieces : List (List Declared)) → AreSettled world pieces settled → number ≡ m
       → Remembers (last_standing world pieces) bringings listings
       × (after ≡ least_onto least (import_faults (last_standing world pieces) number [] bringings))
-
-pub brought-start : (settled : Settled) (m number : ℕ) (least : Option ScopeFault) (listings : Listings) → listings ≡ []
-    → AreBrought settled m number [] least listings least
-brought-start settled m number least listings none = record {
-  noted = λ world pieces are same. (
-    subst (Remembers (last_standing world pieces) []) (sym none)
-        (record { elsewhere = λ from name. refl; kinds_are = λ from name. refl }),
-    refl,
-  );
-}
 
 imports-push : (entities : List Declared) (m : ℕ) (before bringings : List Bringing) (last : Bringing)
     → import_faults entities m before (bringings ++ last ∷ [])

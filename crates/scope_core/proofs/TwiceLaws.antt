@@ -309,18 +309,6 @@ pub record AreNoted (types : Declared → List Ty) (entities : List Entity) (key
       ≡ list_any (λ earlier. of_text one.entity.name earlier && alike types one earlier) before
   pub least_is : least ≡ least_onto start (twice_among types [] before)
 
--- nothing was noted yet
-pub noted-start : (types : Declared → List Ty) (entities : List Entity) (keys : List (List Ty))
-    (least : Option ScopeFault) (kinds : List Kinds)
-    → length kinds ≡ length entities → ((name : ℕ) → kinds_at kinds name ≡ no_kinds)
-    → AreNoted types entities keys least [] least kinds []
-noted-start types entities keys least kinds long none = record {
-  long = long;
-  kinds_are = λ name known. none (number_in entities name);
-  seen_are = λ one taken known is. refl;
-  least_is = refl;
-}
-
 beq-as : (one other : Bool) → beq one other ≡ (if other then one else not one)
 beq-as true true = refl
 beq-as true false = refl

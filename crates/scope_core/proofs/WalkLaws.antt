@@ -56,14 +56,6 @@ stays-then one two three first second = record {
   kept = λ place number is. second.kept place number (first.kept place number is);
 }
 
-pub walks-itself : (scene : Scene) (begun : List Bool) (path : List Place) (now : Option Place) (settled : Settled)
-    → Walks scene begun path now settled begun path now settled
-walks-itself scene begun path now settled = record {
-  stays = stays-itself settled;
-  long = refl;
-  walks = λ world pieces closed m from describes ready way. way;
-}
-
 pub walks-then : (scene : Scene) (a b c : List Bool) (p q r : List Place) (x y z : Option Place)
     (one two three : Settled) → Walks scene a p x one b q y two → Walks scene b q y two c r z three
     → Walks scene a p x one c r z three

@@ -1,6 +1,6 @@
 -- Laws of what is found.
-use Rattle.std.proofs.Common.{◌≡◌, ◌∙◌, ◌++◌, ◌∷◌, [], ℕ, Bool, true, false, List, Some, None, ltb, length}
-use Rattle.std.proofs.Common.{refl, sym, ap, slice_get, slice_index_or, get_or, arith, not, ◌&&◌, ◌==◌, ◌-◌}
+use Rattle.std.proofs.Common.{◌≡◌, ◌∙◌, ◌++◌, ◌∷◌, [], ℕ, Bool, true, false, List, None, ltb, length}
+use Rattle.std.proofs.Common.{sym, ap, slice_get, slice_index_or, arith, not, ◌&&◌, ◌==◌, ◌-◌}
 use Rattle.std.proofs.lemmas.List.{map-append, length-map, length_push, take_at}
 use Rattle.std.proofs.Math.Seq.{get_or-append_seam}
 use Rattle.mdl_syntax.specs.declared.names.Ident.{Ident}
@@ -10,13 +10,8 @@ use Rattle.scope_tables.specs.Visible.{texts, front_parts, last_part}
 use Rattle.scope_tables.specs.inside.Finding.{near_places, far_places, parts_places, first_of}
 use Rattle.std.specs.Str.{bytes_eq}
 use Rattle.std.specs.Cmp.Lexicographic.{pointwise, pointwise_decides, bytes_decides}
-use Rattle.std.proofs.lemmas.Bool.{ltb-true, ltb-false, false_from_ne_true, cond-false}
-use Rattle.std.proofs.lemmas.Option.{slice_get_read, slice_get_past}
-
--- a member that was read, and one that isn't there
-pub was-read : {A : Type 0} (xs : List A) (i : ℕ) (x : A) → true ≡ ltb i (length xs) → x ≡ get_or xs i x
-    → slice_get xs i ≡ Some x
-was-read xs i x within is = slice_get_read xs (length xs) i x refl (ltb-true i (length xs) (sym within)) is
+use Rattle.std.proofs.lemmas.Bool.{ltb-false, false_from_ne_true, cond-false}
+use Rattle.std.proofs.lemmas.Option.{slice_get_past}
 
 pub was-missed : {A : Type 0} (xs : List A) (i : ℕ) → false ≡ ltb i (length xs) → slice_get xs i ≡ None
 was-missed xs i past = slice_get_past xs i (ltb-false i (length xs) (sym past))

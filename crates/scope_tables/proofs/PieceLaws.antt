@@ -2,16 +2,13 @@
 use Rattle.std.proofs.Common.{◌≡◌, ◌++◌, ◌∷◌, [], ◌<◌, ◌∙◌, ◌+◌, ℕ, suc, Bool, List, map, drop, get_or, length}
 use Rattle.std.proofs.Common.{sym, ap, subst, arith}
 use Rattle.std.proofs.Common.{drop-cons}
-use Rattle.std.proofs.lemmas.List.{append-nil, append_assoc}
+use Rattle.std.proofs.lemmas.List.{append_assoc}
 use Rattle.mdl_syntax.specs.declared.declarations.EnumItem.{EnumItem}
 use Rattle.mdl_syntax.specs.declared.declarations.Decl.{Decl}
 use Rattle.mdl_syntax.specs.Modules.{declaration_of, enum_value_of}
 use Rattle.scope_tables.specs.declared.declared.Piece.{Piece}
 use Rattle.scope_tables.specs.Entities.{Declared, numbered, a_value, values_from, declared, declared_from}
 use Rattle.scope_tables.specs.inside.Pieces.{IsPiece, Appends, ValuesLeft, DeclarationsLeft}
-
-pub appends_none : (piece : Piece) → Appends [] piece piece
-appends_none piece = record { comes = λ all is. subst (λ l. IsPiece l piece) (sym (append-nil all)) is }
 
 pub appends_both : (one other : List Declared) (a b c : Piece) → Appends one a b → Appends other b c
     → Appends (one ++ other) a c

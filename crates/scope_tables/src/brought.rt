@@ -2,7 +2,7 @@ ghost use Rattle.std.specs.Prelude.{◌≡◌, ◌++◌, Some, map, option_map, 
 ghost use Rattle.std.specs.List.{flat_map, filter_map};
 ghost use Rattle.case_table.specs.Lists.{place_of};
 ghost use Rattle.module_set.specs.Names.{same_name, named, package_of};
-ghost use Rattle.module_set.specs.Imports.{components, bare, within, package_up};
+ghost use Rattle.module_set.specs.Imports.{bare, within, package_up};
 ghost use Rattle.module_set.specs.ModuleSets.{is_among};
 ghost use Rattle.scope_tables.specs.Brought.{index_meant, bringing, as_list, named_alone, brought_item, brought_by};
 ghost use Rattle.scope_tables.specs.Visible.{texts};

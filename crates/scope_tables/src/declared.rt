@@ -1,7 +1,7 @@
-ghost use Rattle.std.specs.Prelude.{◌≡◌, ◌<◌, [], ◌∷◌, ◌^◌, map, IfOk, OnOk};
+ghost use Rattle.std.specs.Prelude.{◌≡◌, ◌<◌, [], ◌∷◌, map, IfOk, OnOk};
 ghost use Rattle.mdl_syntax.specs.Modules.{declaration_of, enum_value_of, default_of};
 ghost use Rattle.scope_tables.specs.declared.entity.Sort.TheVariants as sort;
-ghost use Rattle.scope_tables.specs.Entities.{Declared, declared, declared_from, values_from, whole, variant_sort};
+ghost use Rattle.scope_tables.specs.Entities.{declared, declared_from, values_from, whole, variant_sort};
 ghost use Rattle.scope_tables.specs.Entities.{listed, function_sort, a_value};
 ghost use Rattle.scope_tables.specs.inside.Pieces.{takes_of, IsPiece, Appends};
 

@@ -1,4 +1,4 @@
-ghost use Rattle.std.specs.Prelude.{◌≡◌, ◌++◌, ◌==◌, ◌&&◌, not, true, Some, map, length, slice_get, IfOk, OnOk};
+ghost use Rattle.std.specs.Prelude.{◌≡◌, ◌++◌, ◌==◌, ◌&&◌, not, true, Some, length, slice_get, IfOk, OnOk};
 ghost use Rattle.scope_tables.specs.Visible.{fits, texts, word_text};
 ghost use Rattle.scope_tables.specs.inside.Finding.{found_places, parts_places, near_places, far_places};
 ghost use Rattle.scope_tables.specs.inside.Finding.{seen_in, sees_at, reaches_of, fits_name, first_of};

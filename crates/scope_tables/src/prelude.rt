@@ -1,6 +1,5 @@
-ghost use Rattle.std.specs.Prelude.{◌≡◌, [], ◌∷◌, ◌++◌, codes, map, IfOk, OnOk};
+ghost use Rattle.std.specs.Prelude.{[], ◌∷◌, map, IfOk, OnOk};
 ghost use Rattle.scope_tables.specs.declared.entity.Sort.TheVariants as sort;
-ghost use Rattle.scope_tables.specs.Entities.{numbered};
 ghost use Rattle.scope_tables.specs.PreludeEntities.{given, prelude, modes, structs, large_structs, normal};
 ghost use Rattle.scope_tables.specs.inside.Pieces.{IsPiece, Appends};
 

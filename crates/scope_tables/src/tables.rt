@@ -1,4 +1,4 @@
-ghost use Rattle.std.specs.Prelude.{◌≡◌, true, false, replicate, slice_get, slice_index_or, option_map, IfOk};
+ghost use Rattle.std.specs.Prelude.{◌≡◌, true, false, replicate, option_map, IfOk};
 ghost use Rattle.scope_tables.specs.inside.Finding.{entity_at, is_hidden};
 
 use crate::entity::Entity;
