@@ -54,7 +54,8 @@ fn random_sets_{number}(rt: HostRuntime) -> Result<(), Fail> {{
                     if let Some((written, wanted)) = look.split_once("=") {{
                         let told = look_told(alloc, &set, written)?;
                         if told.as_str() != wanted {{
-                            wrong.push_str(&format!(in alloc; "{{modules}}: {{written}} -> {{told}}, wanted {{wanted}}\\n")?)?;
+                            let line = format!(in alloc; "{{written}} -> {{told}}, wanted {{wanted}}\\n")?;
+                            wrong.push_str(&format!(in alloc; "{{modules}}: {{line}}")?)?;
                         }}
                     }}
                 }}

@@ -1,8 +1,8 @@
-"""The definitions of names, in the `specs` of crates/scope_tables and crates/scope_core, sentence by sentence, over
-modules that `texts.py` reads.
+"""The definitions of names, in the `specs` of crates/scope_tables and crates/scope_core, sentence by sentence.
+The modules are those that `texts.py` reads.
 
-Nothing here is like the crates: there are no tables, no order of modules and no walk over bases. What is found is looked
-for among all entities, and what entities take and which of them are hidden comes in rounds, as many as there are
+Nothing here is like the crates: there are no tables, no order of modules and no walk over bases. What is found is
+looked for among all entities, and what entities take and which of them are hidden comes in rounds, as many as there are
 entities.
 """
 
