@@ -18,16 +18,18 @@ MOST_OF_A_KIND = 0.25
 MOST_LOOKS = 7
 
 
+def one_of(rng, *made):
+    """One of these, each with its weight before it."""
+    return rng.choices(made[1::2], made[::2])[0]
+
+
 def random_type(rng, modules):
-    """A type, in one of twelve cases an array."""
-    chance = rng.random()
-    if chance < 0.45:
-        name = rng.choice(["float", "int"])
-    elif chance < 0.8:
-        name = rng.choice(["T", "S", "f", "material_surface"])
-    else:
-        name = rng.choice(["::{}::T", "{}::T", "::{}::f"]).format(rng.choice(modules))
-    return name + rng.choice([""] * 8 + ["[2]"])
+    """A type, in one of nine cases an array."""
+    name = one_of(rng,
+                  45, rng.choice(["float", "int"]),
+                  35, rng.choice(["T", "S", "f", "material_surface"]),
+                  20, rng.choice(["::{}::T", "{}::T", "::{}::f"]).format(rng.choice(modules)))
+    return name + one_of(rng, 8, "", 1, "[2]")
 
 
 def random_parameters(rng, modules, is_prototype=False):
@@ -49,40 +51,29 @@ def random_base(rng, modules):
 
 def random_declaration(rng, modules):
     """A declaration, mostly a prototype, a function or a variant of one."""
-    export = "export " if rng.random() < 0.55 else ""
     name = rng.choice(NAMES)
-    chance = rng.random()
-    if chance < 0.3:
-        made = f"float {name}({random_parameters(rng, modules, True)});"
-    elif chance < 0.5:
-        made = f"float {name}({random_parameters(rng, modules)}) = 1.0;"
-    elif chance < 0.75:
-        made = f"float {name}(*) = {random_base(rng, modules)}();"
-    elif chance < 0.82:
-        made = f"struct {rng.choice(['T', 'S', 'S', name])} {{ {rng.choice(['', '', 'float a;', 'int a;'])} }};"
-    elif chance < 0.88:
-        made = f"enum {rng.choice(['E', 'T'])} {{ {rng.choice(['x', 'x, y', 'f', 'g, x'])} }};"
-    elif chance < 0.93:
-        made = f"annotation {rng.choice(['k', 'f', 'k'])}({rng.choice(['', 'int a', 'float a'])});"
-    elif chance < 0.97:
-        made = f"material {rng.choice(['w', name])}({rng.choice(['', 'int a'])}) = material();"
-    else:
-        made = f"material {rng.choice(['w', name])}(*) = material();"
-    return export + made
+    return one_of(rng, 55, "export ", 45, "") + one_of(
+        rng,
+        30, f"float {name}({random_parameters(rng, modules, True)});",
+        20, f"float {name}({random_parameters(rng, modules)}) = 1.0;",
+        25, f"float {name}(*) = {random_base(rng, modules)}();",
+        7, f"struct {rng.choice(['T', 'S', 'S', name])} {{ {rng.choice(['', '', 'float a;', 'int a;'])} }};",
+        6, f"enum {rng.choice(['E', 'T'])} {{ {rng.choice(['x', 'x, y', 'f', 'g, x'])} }};",
+        5, f"annotation {rng.choice(['k', 'f', 'k'])}({rng.choice(['', 'int a', 'float a'])});",
+        4, f"material {rng.choice(['w', name])}({rng.choice(['', 'int a'])}) = material();",
+        3, f"material {rng.choice(['w', name])}(*) = material();")
 
 
 def random_import(rng, module):
     """An import of a module, in any form."""
     reference = rng.choice(["::", "", ".::"]) + module
     name = rng.choice(NAMES + ["S", "E", "x", "k"])
-    chance = rng.random()
-    if chance < 0.3:
-        return f"import {reference}::*;"
-    if chance < 0.45:
-        return f"import {reference}::{name};"
-    if chance < 0.75:
-        return f"using {reference} import *;"
-    return f"using {reference} import {name if rng.random() < 0.8 else f'{name}, {rng.choice(NAMES)}'};"
+    return one_of(rng,
+                  30, f"import {reference}::*;",
+                  15, f"import {reference}::{name};",
+                  30, f"using {reference} import *;",
+                  20, f"using {reference} import {name};",
+                  5, f"using {reference} import {name}, {rng.choice(NAMES)};")
 
 
 def random_files(rng):

@@ -142,10 +142,6 @@ not_tied rows word place parts i d within tie = by (nat_lt i place) refl
               (sym (parts.1 i d (grind (arith, nat_tests)) within) ∙ tie),
         ))
 
-pub one_ascends : (rows : List Row) → Ascend (take 1 (names_of (map row_value rows)))
-one_ascends [] = tt
-one_ascends (row ∷ rows) = tt
-
 -- one more name ascends where it is above the one before it
 pub next_ascends : (rows : List Row) (k : ℕ) (d : Row) → suc k < length rows →
     Ascend (take (suc k) (names_of (map row_value rows))) →

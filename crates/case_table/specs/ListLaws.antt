@@ -66,11 +66,6 @@ length-firsts_onto-le same seen (x ∷ xs) =
     let longer = length-with_first-le same seen x in
     omega (arith, length-firsts_onto-le same (with_first same seen x) xs, longer)
 
--- a list without its repeats is at most as long
-pub length-firsts-le : {A : Type 0} (same : A → A → Bool) (xs : List A)
-    → length (firsts same xs) ≤ length xs
-length-firsts-le same xs = omega (arith, length-firsts_onto-le same [] xs)
-
 -- where all members come onto a list, the first of them is not there
 list_any-fresh : {A : Type 0} (same : A → A → Bool) (seen : List A) (x : A) (xs : List A)
     → firsts_onto same seen (x ∷ xs) ≡ seen ++ x ∷ xs → list_any (same x) seen ≡ false
@@ -185,12 +180,3 @@ pub slice_get-with_first_kept : {A : Type 0} (same : A → A → Bool) (xs : Lis
 slice_get-with_first_kept same xs x k y at =
     cond_both (list_any (same x) xs) xs (xs ++ x ∷ []) (λ ys. slice_get ys k ≡ Some y) (λ _. at)
     (λ _. slice_get-append xs (x ∷ []) k y at)
-
--- the member that was put stands at its place
-pub slice_get-with_first : {A : Type 0} (same : A → A → Bool) → Tells same → (xs : List A) (x : A)
-    → slice_get (with_first same xs x) (place_of same x xs) ≡ Some x
-slice_get-with_first same tells xs x =
-    cond_both (list_any (same x) xs) xs (xs ++ x ∷ [])
-    (λ ys. slice_get ys (place_of same x xs) ≡ Some x)
-    (slice_get-place_of same tells xs x)
-    (λ new. ap (slice_get (xs ++ x ∷ [])) (place_of-absent same x xs new) ∙ slice_get-push xs x)

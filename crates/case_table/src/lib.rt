@@ -44,6 +44,29 @@ mod tests {
     }
 
     #[test]
+    fn texts_are_the_same_inside_and_outside(rt: HostRuntime) -> Result<(), Fail> {
+        let alloc = rt.alloc();
+        for text in [
+            "",
+            "mix",
+            "sixteen_bytes_in",
+            "seventeen_bytes_i",
+            "\u{e9}\u{e9}\u{e9}\u{e9}\u{e9}\u{e9}\u{e9}\u{e9}\u{e9}",
+        ] {
+            let outside = Text::of(String::from_str(alloc, text)?);
+            let copied = Text::copy(alloc, text)?;
+            assert_eq!(rt; outside.as_str(), text);
+            assert_eq!(rt; copied.as_str(), text);
+            assert_eq!(rt; outside.clone()?.as_str(), text);
+            assert_eq!(rt; copied.clone()?.as_str(), text);
+            assert!(rt; outside == copied);
+            assert!(rt; copied.cmp(&outside) == Ordering::Equal);
+            assert!(rt; hash_of(&copied) == hash_of(&outside));
+        }
+        Ok(())
+    }
+
+    #[test]
     fn lists_are_their_elements(rt: HostRuntime) -> Result<(), Fail> {
         let alloc = rt.alloc();
         let made = Seq::of(vec![in alloc; 3u32, 1]?);

@@ -1,4 +1,4 @@
-ghost use Rattle.std.specs.Prelude.{◌≡◌, ℕ, ◌==◌, Some, true, List, IfOk, string_bytes};
+ghost use Rattle.std.specs.Prelude.{◌≡◌, ℕ, ◌==◌, Some, List, IfOk, string_bytes};
 ghost use Rattle.std.proofs.Common.{refl, rules};
 ghost use Rattle.std.specs.Cmp.Lexicographic.{pointwise, slice_cmp, nat_list_eq_equiv};
 ghost use Rattle.std.specs.Cmp.Lexicographic.{nat_list_cmp_total, texts_ties, texts_po};
@@ -7,23 +7,34 @@ ghost use Rattle.std.specs.Cmp;
 ghost use Rattle.std.specs.Hash as fed;
 ghost use Rattle.std.specs.Cmp.Rules.{hashing};
 
+use arrayvec::ArrayString;
 use std::alloc::{AllocError, Global};
 use std::cmp::Ordering;
 use std::hash::{Hash, Hasher};
 use std::marker::Model;
 
+/// How many bytes of a text lie in the value itself. Most names have no more, and take no memory elsewhere.
+const INLINE_BYTES: usize = 16;
+
 /// A text that contracts see as the list of its bytes, which are UTF-8.
 #[derive(Debug, Drop)]
 pub struct Text {
-    text: String,
+    held: Held,
+}
+
+#[derive(Debug, Drop)]
+enum Held {
+    Inline(ArrayString<INLINE_BYTES>),
+    Heap(String),
 }
 
 impl Model for Text {
-    ghost use Rattle.std.specs.Prelude.{List, ℕ, string_bytes};
+    ghost use Rattle.std.specs.Prelude.{List, ℕ};
+    ghost use Rattle.case_table.specs.Texts.{held_bytes};
 
     ghost Value = { List ℕ };
 
-    ghost view = { λ t. string_bytes t.text };
+    ghost view = { λ t. held_bytes t.held };
 }
 
 impl Text {
@@ -31,22 +42,30 @@ impl Text {
     pub fn of(text: String) -> Text
         ensures { result ≡ string_bytes text }
     {
-        Text { text }
+        Text {
+            held: Held::Heap(text),
+        }
     }
 
-    /// A copy of a borrowed text.
+    /// A copy of a borrowed text. A short one takes no memory.
     pub fn copy(alloc: Global, text: &str) -> Result<Text, AllocError>
         ensures { IfOk result (λ copied. copied ≡ text.now) }
     {
-        let text = String::from_str(alloc, text)?;
-        Ok(Text { text })
+        let held = match ArrayString::from(text) {
+            Ok(short) => Held::Inline(short),
+            Err(_) => Held::Heap(String::from_str(alloc, text)?),
+        };
+        Ok(Text { held })
     }
 
     /// The text. Takes no memory.
     pub fn as_str(&self) -> &str
         ensures { result.now ≡ self.now }
     {
-        self.text.as_str()
+        match &self.held {
+            Held::Inline(short) => short.as_str(),
+            Held::Heap(text) => text.as_str(),
+        }
     }
 }
 
@@ -54,8 +73,11 @@ impl Clone for Text {
     ghost is_clone = { λ t copied. copied ≡ t };
 
     fn clone(&self) -> Result<Text, AllocError> {
-        let text = self.text.clone()?;
-        Ok(Text { text })
+        let held = match &self.held {
+            Held::Inline(short) => Held::Inline(*short),
+            Held::Heap(text) => Held::Heap(text.clone()?),
+        };
+        Ok(Text { held })
     }
 }
 

@@ -5,7 +5,7 @@ use Rattle.std.proofs.Common.{get_or, Bor}
 use Rattle.std.proofs.Common.{refl, sym, ap, ◌∙◌, subst, arith, option_and_then}
 use Rattle.std.specs.List.{list_any, list_all, AllByRecursion}
 use Rattle.std.proofs.lemmas.Bool.{cond-true, cond-false, leb-true, le-leb, false_from_ne_true}
-use Rattle.std.proofs.lemmas.List.{append_assoc, append-nil, length-append, length_push, length-take-le, take_at}
+use Rattle.std.proofs.lemmas.List.{append_assoc, append-nil, length-append, length-take-le, take_at}
 use Rattle.std.proofs.lemmas.List.{drop_all, drop_more, get_or_at}
 use Rattle.std.proofs.lemmas.Option.{same_Some, none-some, option_and_then_some, slice_get-get_or}
 use Rattle.case_table.specs.Lists.{with_first, firsts_onto}
@@ -208,16 +208,6 @@ instance_of_complete parts material some =
     cond-true (nat_le 2 (length all)) (with_last (slice_get all (length all - 1))) None
     (le-leb 2 (length all) two)
     ∙ (ap with_last found ∙ ap (λ ps. Some (task.Instance (named ps) material)) front)
-
--- the last of two or more parts is the material, and the others are the module's
-pub instance_of_is : (parts front : List (List ℕ)) (last : List ℕ) → parts ≡ front ++ last ∷ [] → 2 ≤ length parts →
-    instance_of parts ≡ Some (task.Instance (named front) last)
-instance_of_is parts front last is many =
-    let long : length parts ≡ length front + 1 = ap length is ∙ length_push front last in
-    ap instance_of is
-    ∙ instance_of_complete front last (λ none.
-    let empty : length front ≡ 0 = ap length none in
-    omega arith)
 
 -- no parts name no module
 pub module_of_none : (parts : List (List ℕ)) → length parts ≡ 0 → module_of parts ≡ None

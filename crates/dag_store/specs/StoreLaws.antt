@@ -70,14 +70,6 @@ term_at-terms_onto symbols terms (node ∷ nodes) k h =
     term_at-terms_onto symbols (terms ++ term ∷ []) nodes k within
     ∙ get_or_append_left terms (term ∷ []) (apply (symbol.Bool true) nil) k h
 
--- more nodes at the end leave the terms of those before
-pub slice_get-terms_of_more : (kept : Kept) (more : List Node) (k : ℕ) (t : Term)
-    → slice_get (terms_of kept) k ≡ Some t
-    → slice_get (terms_of (with_nodes kept more)) k ≡ Some t
-slice_get-terms_of_more kept more k t at =
-    subst (λ ts. slice_get ts k ≡ Some t) (sym (terms_onto-append kept.symbols [] kept.nodes more))
-    (slice_get-terms_onto kept.symbols (terms_of kept) more k t at)
-
 -- ---- nodes over lists that agree where the nodes look
 
 map-agree : {X : Type 0} (f g : ℕ → X) (n : ℕ) (kids : List ℕ)
@@ -218,16 +210,6 @@ Fits-from_kids kept node s kids at_symbol at_kids takes =
       kids = reads.inside;
       typed = reads.types ∙ subst (λ r. Takes r (map term_type kids)) (sym number) takes;
     }
-
--- and it stands for that symbol over those terms
-pub stands_for-from_kids : (kept : Kept) (node : Node) (s : Symbol) (kids : List Term)
-    → slice_get kept.symbols node.symbol ≡ Some s
-    → map (slice_get (terms_of kept)) node.kids ≡ map Some kids
-    → stands_for kept node ≡ apply s (terms_from kids)
-stands_for-from_kids kept node s kids at_symbol at_kids =
-    let reads = Reads-from_slice_get (terms_of kept) node.kids kids at_kids in
-    let number = get_or_from_slice_get kept.symbols node.symbol s (symbol.Bool true) at_symbol in
-    λ i. apply (number i) (terms_from (reads.read i))
 
 -- ---- one node for each term
 

@@ -1,5 +1,4 @@
 ghost use Rattle.std.specs.Prelude.{◌≡◌, IfOk};
-ghost use Rattle.mdl_syntax.specs.Trees.{tree_of};
 ghost use Rattle.expression_grammar.specs.declared.mode.Stop.TheVariants as stop;
 ghost use Rattle.expression_grammar.specs.inside.Machine.{name_step as machine_name};
 ghost use Rattle.expression_grammar.specs.inside.Machine.{type_name_step as machine_type_name};

@@ -1,4 +1,4 @@
-ghost use Rattle.std.specs.Prelude.{◌≡◌, ◌≤◌, ℕ, List, IfOk, IfErr};
+ghost use Rattle.std.specs.Prelude.{◌≡◌, ◌≤◌, IfOk, IfErr};
 ghost use Rattle.mdl_syntax.specs.Trees.{Tree, tree_of};
 ghost use Rattle.mdl_syntax.specs.Written.{write};
 ghost use Rattle.mdl_syntax.specs.Heights.{most_height};

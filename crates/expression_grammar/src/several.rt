@@ -2,7 +2,7 @@ ghost use Rattle.std.specs.Prelude.{◌≡◌, ◌++◌, ◌∷◌, [], map, max
 ghost use Rattle.mdl_syntax.specs.Trees.{tree_of, trees_of, argument_of, arguments_of, initializer_of, initializers_of};
 ghost use Rattle.mdl_syntax.specs.Heights.{trees_height, arguments_height, initializers_height};
 ghost use Rattle.expression_grammar.specs.inside.Capped.{capped};
-ghost use Rattle.expression_grammar.specs.inside.Machine.{argument, span_of, from_to};
+ghost use Rattle.expression_grammar.specs.inside.Machine.{argument};
 
 use crate::operand::Operand;
 use mdl_syntax::{Argument, Expr, Freq, Ident, LetInit, Span, TypeTree};

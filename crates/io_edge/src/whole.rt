@@ -1,4 +1,4 @@
-ghost use Rattle.std.specs.Prelude.{◌≤◌, length, IsOk, OnOk, IfErr};
+ghost use Rattle.std.specs.Prelude.{OnOk, IfErr};
 ghost use Rattle.io_edge.specs.Sink.{WroteAll, WrotePart};
 
 use crate::sink::{Sink, Wrote};

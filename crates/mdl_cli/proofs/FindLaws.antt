@@ -19,11 +19,10 @@ use Rattle.module_set.specs.declared.module_name.ModuleName.{ModuleName}
 use Rattle.module_set.specs.declared.set.ModuleSet.{ModuleSet}
 use Rattle.module_set.specs.Members.{Member, members_from, members_of}
 use Rattle.module_loader.specs.declared.fault.LoadFault.{LoadFault}
-use Rattle.module_loader.specs.declared.fault.LoadFault.TheVariants as fault
 use Rattle.module_loader.specs.Files.{Packages, most_module}
 use Rattle.module_loader.specs.Members.{IsMember}
 use Rattle.module_loader.specs.LoadFaults.{HasLoadFault}
-use Rattle.module_loader.specs.Loads.{MayHold, packages_of, AreLoaded, Loads, FailsToLoad}
+use Rattle.module_loader.specs.Loads.{MayHold, packages_of, AreLoaded, Loads}
 use Rattle.command_words.specs.declared.request.Request.{Request}
 use Rattle.command_words.specs.declared.request.Task.{Task}
 use Rattle.command_words.specs.declared.request.Task.TheVariants as task
@@ -39,7 +38,7 @@ use Rattle.mdl_cli.specs.Outcome.{asked, material_name, ok_text, names_in, Answe
 use Rattle.mdl_cli.specs.Outcome.{RefusesMembers}
 use Rattle.mdl_cli.specs.Headline.{RefusalLine}
 use Rattle.mdl_cli.specs.inside.Delivery.{HasCause, Finds, FindsIn, FindsInText, FindsInTexts, FindsInWords}
-use Rattle.mdl_cli.specs.inside.Delivery.{FindsAt, IsLine, IsText, Told, Refuses, AreShort}
+use Rattle.mdl_cli.specs.inside.Delivery.{FindsAt, IsLine, IsText, Told, AreShort}
 use Rattle.mdl_cli.specs.inside.Delivery.{WithoutWords, FindsTask, TellsScopes}
 use Rattle.mdl_cli.proofs.OutcomeLaws.{only_one}
 
@@ -277,26 +276,6 @@ line_found request source after stands (answer.Text text) has is = absurd is
 line_found request source after stands answer.NotBuilt has is = absurd is
 line_found request source after stands answer.Usage has is = absurd is
 line_found request source after stands answer.ReadFault has is = absurd is
-
-fault_found : (request : Request) (source after : SourceState) (stands : LoadFault) (found : Answer) →
-    FailsToLoad request.roots (asked request.task) source after stands → Refuses stands found →
-    FindsAt request source after found
-fault_found request source after fault.ReadFault found fails is =
-    subst (FindsAt request source after) (sym is) fails
-fault_found request source after fault.OutOfMemory found fails is =
-    subst (FindsAt request source after) (sym is) tt
-fault_found request source after (fault.Absent asker place name) found fails is =
-    line_found request source after (fault.Absent asker place name) found fails is
-fault_found request source after (fault.TooLong name) found fails is =
-    line_found request source after (fault.TooLong name) found fails is
-fault_found request source after (fault.Lex name own place) found fails is =
-    line_found request source after (fault.Lex name own place) found fails is
-fault_found request source after (fault.Parse name own place) found fails is =
-    line_found request source after (fault.Parse name own place) found fails is
-fault_found request source after fault.TooMany found fails is =
-    line_found request source after fault.TooMany found fails is
-fault_found request source after (fault.Cycle path) found fails is =
-    line_found request source after (fault.Cycle path) found fails is
 
 -- From a request to the words.
 

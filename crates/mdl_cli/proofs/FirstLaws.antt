@@ -1,19 +1,21 @@
 -- First texts: reading one from the front of its words agrees with what a first text is.
-use Rattle.std.proofs.Common.{◌≡◌, ℕ, not, true, false, List, [], ◌∷◌, Some}
-use Rattle.std.proofs.Common.{codes, refl, sym, ◌∙◌, arith}
+use Rattle.std.proofs.Common.{◌≡◌, ℕ, ◌==◌, not, true, false, List, [], ◌∷◌, length, Some, None}
+use Rattle.std.proofs.Common.{codes, refl, sym, ap, ◌∙◌, arith}
 use Rattle.std.specs.List.{list_any}
 use Rattle.std.specs.Str.{bytes_eq}
-use Rattle.std.proofs.lemmas.Bool.{and_parts, not-true}
+use Rattle.std.proofs.lemmas.Bool.{and_parts, not-true, true≢false, cond-true}
 use Rattle.std.proofs.lemmas.Option.{some_pair_parts}
+use Rattle.type_rules.specs.declared.ty.Ty.{Ty}
 use Rattle.type_rules.specs.Types.{plain}
 use Rattle.type_rules.specs.Terms.{Term}
 use Rattle.mdl_lexer.specs.declared.token.Kind.{Kind}
 use Rattle.mdl_lexer.specs.declared.token.Kind.TheVariants as kind
+use Rattle.mdl_lexer.specs.declared.token.Token.{Token}
 use Rattle.mdl_cli.specs.Names.{prelude_names}
-use Rattle.mdl_cli.specs.Words.{name_word, mark_word}
+use Rattle.mdl_cli.specs.Words.{kinds_of, name_word, mark_word}
 use Rattle.mdl_cli.specs.FirstText.{AreFirstWords, versions}
 use Rattle.mdl_cli.specs.inside.Reading.{behind, behind_version, name_in, head_in, most_height}
-use Rattle.mdl_cli.specs.inside.Reading.{if_ended, first_in}
+use Rattle.mdl_cli.specs.inside.Reading.{term_in, if_ended, first_in}
 use Rattle.mdl_cli.proofs.TermReading.{IfRead, nothing, just, and_then, by_test, behind_sound}
 use Rattle.mdl_cli.proofs.TermReading.{term_in_sound, term_in_complete, rank}
 
@@ -115,3 +117,23 @@ pub first_words_are_one : (words : List Kind) (a b : List ℕ) (t u : Term) → 
     AreFirstWords words b u → (a ≡ b) × (t ≡ u)
 first_words_are_one words a b t u h k =
     some_pair_parts a b t u (sym (first_in_complete words a t h) ∙ first_in_complete words b u k)
+
+-- words that go on behind a first text, or a name that the prelude has
+pub goes_on : (found : List ℕ × Term) (rest : List Token) → (length rest == 0) ≡ false →
+    if_ended found (kinds_of rest) ≡ None
+goes_on found [] some = absurd (true≢false some)
+goes_on found (token ∷ rest) some = refl
+
+pub has_old_name : (found : List ℕ × Term) (rest : List Token) →
+    list_any (bytes_eq found.0) prelude_names ≡ true → if_ended found (kinds_of rest) ≡ None
+has_old_name found [] old = cond-true (list_any (bytes_eq found.0) prelude_names) None (Some found) old
+has_old_name found (token ∷ rest) old = refl
+
+pub no_first : (words : List Kind) (material : Ty) (head : List ℕ × List Kind) (body : Term × List Kind)
+    (end : List Kind) → head_in words ≡ Some head → material ≡ plain (codes "material") →
+    term_in most_height material head.1 ≡ Some body → behind (mark_word (codes ";")) body.1 ≡ Some end →
+    if_ended (head.0, body.0) end ≡ None → first_in words ≡ None
+unfolding first_in
+no_first words material head body end headed is termed marked none =
+    let read = ap (λ ty. term_in most_height ty head.1) (sym is) ∙ termed in
+    rw (headed, read, marked) none

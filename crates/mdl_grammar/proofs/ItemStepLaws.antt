@@ -6,13 +6,12 @@ use Rattle.mdl_syntax.specs.Modules.{Parameter}
 use Rattle.expression_grammar.specs.declared.sort.Sort as words
 use Rattle.expression_grammar.specs.declared.sort.Sort.TheVariants as sort
 use Rattle.module_grammar.specs.inside.ModuleMachine.{typed_step}
-use Rattle.module_grammar.specs.inside.ModuleStates.{Begun, Owner, Struct, Fronted, Named}
+use Rattle.module_grammar.specs.inside.ModuleStates.{Begun, Owner, Struct, Fronted}
 use Rattle.module_grammar.specs.inside.ModuleMachine.{declaration_step, exported_step, item_step}
 use Rattle.module_grammar.specs.inside.ModuleMachine.{parameters_step, fields_step, first_front_step}
 use Rattle.module_grammar.specs.inside.ModuleMachine.{function_step}
 use Rattle.module_grammar.specs.inside.ModuleStates.{of_parameter, of_field}
-use Rattle.module_grammar.specs.inside.ModuleMachine.{function_annotated, annotation_annotated}
-use Rattle.module_grammar.specs.inside.ModuleMachine.{annotation_declared_step}
+use Rattle.module_grammar.specs.inside.ModuleMachine.{function_annotated}
 use Rattle.mdl_grammar.specs.inside.ModuleViews.{late_item, unmarked}
 use Rattle.expression_grammar.specs.inside.SortViews.{sort_view}
 
@@ -45,11 +44,6 @@ early_otherwise token begun sort.Import place one two three = absurd (one refl)
 early_otherwise token begun sort.Using place one two three = absurd (two refl)
 early_otherwise token begun sort.Module place one two three = absurd (three refl)
 early_otherwise token begun _ place one two three = refl
-
-pub late_same : (token : ℕ) (begun : Begun) (word : words.Sort) (place : Span) →
-    item_step token begun false (sort_view word) place ≡ late_item token begun (sort_view word) place
-late_same token begun sort.Export place = refl
-late_same token begun _ place = refl
 
 pub parameters_otherwise : (token : ℕ) (begun : Begun) (owner : Owner) (word : words.Sort)
     (place : Span) → (word ≡ sort.Closing → ⊥) →
@@ -84,10 +78,3 @@ pub function_otherwise : (begun : Begun) (fronted : Fronted) (parameters : List 
 function_otherwise begun fronted parameters (sort.Frequency mark) place other =
     absurd (other mark refl)
 function_otherwise begun fronted parameters _ place other = refl
-
-pub declared_otherwise : (begun : Begun) (named : Named) (parameters : List Parameter)
-    (word : words.Sort) (place : Span) → (word ≡ sort.OpeningBracket → ⊥) →
-    annotation_declared_step begun named parameters (sort_view word) place
-    ≡ annotation_annotated begun named parameters None (sort_view word) place
-declared_otherwise begun named parameters sort.OpeningBracket place other = absurd (other refl)
-declared_otherwise begun named parameters _ place other = refl

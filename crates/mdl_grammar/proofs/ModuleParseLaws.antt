@@ -1,5 +1,5 @@
 -- The loops of the reader of modules, as the machine's run.
-use Rattle.std.proofs.Common.{◌≡◌, ◌∙◌, refl, ap, sym, arith, ℕ, suc, ◌+◌, true, false}
+use Rattle.std.proofs.Common.{◌≡◌, ◌∙◌, refl, ap, sym, arith, ℕ, suc, ◌+◌, true}
 use Rattle.std.proofs.Common.{List, [], ◌∷◌, Some, None, Err}
 use Rattle.std.proofs.lemmas.Bool.{false≢true}
 use Rattle.mdl_lexer.specs.declared.token.Token.{Token}
@@ -8,17 +8,15 @@ use Rattle.mdl_grammar.specs.declared.module_state.ModuleStop.TheVariants as sto
 use Rattle.mdl_grammar.specs.declared.module_state.Begun as held_begun
 use Rattle.module_grammar.specs.inside.ModuleStates.{State, Begun, Position, Outcome, on, within, item_wanted}
 use Rattle.module_grammar.specs.inside.ModuleMachine.{module_taken, run_module, run_module_from, whole_after}
-use Rattle.module_grammar.specs.inside.ModuleMachine.{module_end, module_bad}
+use Rattle.module_grammar.specs.inside.ModuleMachine.{module_end}
 use Rattle.module_grammar.specs.inside.ModuleStates.{wrong, too_deep, leaves_out}
-use Rattle.module_grammar.specs.inside.ModuleMachine.{waiting_place, ends_waiting, over_at}
+use Rattle.module_grammar.specs.inside.ModuleMachine.{waiting_place, ends_waiting}
 use Rattle.module_grammar.specs.inside.ModuleStates.{statement_body}
-use Rattle.module_grammar.specs.inside.ModuleMachine.{step_from, module_step, place_or}
+use Rattle.module_grammar.specs.inside.ModuleMachine.{step_from, place_or}
 use Rattle.expression_grammar.specs.declared.sort.Sort as words
 use Rattle.expression_grammar.specs.declared.sort.Sort.TheVariants as sorts
-use Rattle.mdl_syntax.specs.declared.names.Span.{Span}
-use Rattle.expression_grammar.specs.inside.Machine.{Sort, left_out}
+use Rattle.expression_grammar.specs.inside.Machine.{Sort}
 use Rattle.expression_grammar.specs.inside.SortViews.{sort_view}
-use Rattle.module_grammar.specs.inside.ModuleMachine.{module_sort_step, state_step}
 use Rattle.mdl_grammar.specs.inside.ModuleViews.{ModuleCame, IsInUse}
 use Rattle.mdl_grammar.specs.inside.Runs.{run_after, is_item}
 
@@ -38,26 +36,12 @@ loop_goes limit whole at next_whole tokens rest behind state after token first s
     (next_place at)
     ∙ ap (λ count. run_module_from true limit count (at + 1) (on after) behind) (sym next_is)
 
--- and stops where it stops
-pub loop_stops : (limit whole at : ℕ) (tokens rest behind : List Token) (state : State) (token : Token) →
-    rest ≡ token ∷ behind →
-    run_module limit tokens ≡ run_module_from true limit whole at (on state) rest →
-    run_module limit tokens
-    ≡ run_after limit whole at (module_taken true limit at state token) behind
-loop_stops limit whole at tokens rest behind state token first so_far =
-    so_far ∙ ap (run_module_from true limit whole at (on state)) first
-
 -- Items.
 
 pub end_item : (whole at : ℕ) (begun : Begun) (position : Position) → is_item position ≡ true →
     module_end whole at (within begun position) ≡ module_end whole at (within begun (item_wanted true))
 end_item whole at begun (item_wanted early) is = refl
 end_item whole at begun _ is = absurd (false≢true is)
-
-pub end_no_item : (whole at : ℕ) (begun : Begun) (position : Position) →
-    is_item position ≡ false → module_end whole at (within begun position) ≡ module_bad whole at
-end_no_item whole at begun (item_wanted early) is = absurd (false≢true (sym is))
-end_no_item whole at begun _ is = refl
 
 -- Waiting.
 
@@ -86,30 +70,7 @@ waiting_stopped limit waiting at stops.StatementBody begun made tokens other cam
     came_to limit waiting at made statement_body tokens came refl
 waiting_stopped limit waiting at stops.OutOfMemory begun made tokens other came = absurd (other refl)
 
-pub waiting_over : (limit waiting at place : ℕ) (state : State) (tokens : List Token) →
-    Some place ≡ over_at waiting state → waiting_place limit waiting at (on state) tokens ≡ place
-waiting_over limit waiting at place state [] is = ap (place_or waiting) (sym is)
-waiting_over limit waiting at place state (token ∷ tokens) is =
-    ap (place_or (waiting_place limit waiting (suc at) (module_step limit at state token) tokens))
-    (sym is)
-
-pub waiting_goes : (limit waiting at : ℕ) (state : State) (tokens behind : List Token) (token : Token) →
-    tokens ≡ token ∷ behind → None ≡ over_at waiting state →
-    waiting_place limit waiting at (on state) tokens
-    ≡ waiting_place limit waiting (at + 1) (module_step limit at state token) behind
-waiting_goes limit waiting at state tokens behind token first is =
-    ap (waiting_place limit waiting at (on state)) first
-    ∙ ap (place_or (waiting_place limit waiting (suc at) (module_step limit at state token) behind))
-    (sym is)
-    ∙ ap (λ place. waiting_place limit waiting place (module_step limit at state token) behind)
-    (next_place at)
-
 -- Words.
-
-pub in_use_step : (limit number : ℕ) (state : State) (word : Sort) (place : Span) → IsInUse word →
-    module_sort_step limit number state word place ≡ state_step limit number state word place
-in_use_step limit number state (left_out text) place is = absurd is
-in_use_step limit number state _ place is = refl
 
 pub in_use : (word : words.Sort) → ((text : _) → word ≡ sorts.LeftOut text → ⊥) →
     IsInUse (sort_view word)

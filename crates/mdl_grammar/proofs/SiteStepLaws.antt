@@ -1,32 +1,24 @@
 -- Steps of expressions that stand in a module by what comes, as the reader takes them.
-use Rattle.std.proofs.Common.{◌≡◌, ◌∙◌, sym, ap, subst, refl, arith, ℕ, suc, Bool, true, false, List, []}
+use Rattle.std.proofs.Common.{◌≡◌, ◌∙◌, sym, ap, refl, arith, ℕ, suc, Bool, true, false, List, []}
 use Rattle.std.proofs.Common.{◌+◌, ◌∷◌, ◌++◌, if◌then◌else◌, length, map}
 use Rattle.std.proofs.lemmas.List.{map-append}
 use Rattle.mdl_syntax.specs.declared.names.Span.{Span}
 use Rattle.mdl_syntax.specs.Trees.{Tree, call}
 use Rattle.mdl_syntax.specs.declared.declarations.Anno.{Anno}
-use Rattle.mdl_syntax.specs.Modules.{Annotation, annotation_of}
+use Rattle.mdl_syntax.specs.Modules.{annotation_of}
 use Rattle.expression_grammar.specs.declared.frame.Frame as held
-use Rattle.expression_grammar.specs.declared.mode.Mode as held_modes
-use Rattle.expression_grammar.specs.declared.mode.Mode.TheVariants as held_mode
-use Rattle.expression_grammar.specs.declared.operand.Operand.{Operand}
-use Rattle.mdl_grammar.specs.declared.module_state.Site as held_sites
-use Rattle.mdl_grammar.specs.declared.module_state.Site.TheVariants as held_site
-use Rattle.mdl_grammar.specs.declared.module_state.Fronted as held_fronted
-use Rattle.mdl_grammar.specs.declared.module_state.Holder as held_holders
 use Rattle.module_grammar.specs.inside.ModuleMachine.{whole_call, call_step}
 use Rattle.module_grammar.specs.inside.ModuleStates.{Begun, Site, expression}
-use Rattle.module_grammar.specs.inside.ModuleMachine.{call_outcome, call_goes, call_read, may_name}
+use Rattle.module_grammar.specs.inside.ModuleMachine.{call_outcome, call_goes, may_name}
 use Rattle.module_grammar.specs.inside.ModuleStates.{wrong}
-use Rattle.module_grammar.specs.inside.ModuleStates.{within, item_wanted, Holder, in_annotation}
+use Rattle.module_grammar.specs.inside.ModuleStates.{within, Holder, in_annotation}
 use Rattle.module_grammar.specs.inside.ModuleMachine.{first_annotation_step}
 use Rattle.expression_grammar.specs.inside.Machine.{Sort, Mode, Frame, complete, wanted, mode_step}
 use Rattle.expression_grammar.specs.inside.SortViews.{sort_view}
 use Rattle.expression_grammar.specs.declared.sort.Sort as words
 use Rattle.expression_grammar.specs.declared.sort.Sort.TheVariants as sorts
-use Rattle.expression_grammar.specs.inside.Views.{IsNoCall, stack_of, mode_of}
-use Rattle.mdl_grammar.specs.inside.ModuleViews.{site_of}
-use Rattle.expression_grammar.proofs.StackLaws.{stack_of-length, stack_of-none}
+use Rattle.expression_grammar.specs.inside.Views.{IsNoCall, stack_of}
+use Rattle.expression_grammar.proofs.StackLaws.{stack_of-length}
 
 -- A tree that is no call.
 
@@ -108,37 +100,12 @@ goes_inside : (begun : Begun) (site : Site) (tree : Tree) (frames : List Frame) 
 goes_inside begun site tree [] some = absurd (some refl)
 goes_inside begun site tree (frame ∷ frames) some = refl
 
-pub call_goes_inside : (begun : Begun) (site : Site) (tree : Tree) (frames : List held.Frame) →
-    (length frames ≡ 0 → ⊥) →
-    call_goes begun site (complete tree) (stack_of frames)
-    ≡ within begun (expression site (complete tree) (stack_of frames))
-call_goes_inside begun site tree frames some =
-    goes_inside begun site tree (stack_of frames) (λ none. some (sym (stack_of-length frames) ∙ none))
-
 none_left : (frames : List Frame) → length frames ≡ 0 → frames ≡ []
 none_left [] none = refl
 none_left (frame ∷ frames) none = absurd (omega (arith, none))
 
 pub no_frames : (frames : List held.Frame) → length frames ≡ 0 → stack_of frames ≡ []
 no_frames frames none = none_left (stack_of frames) (stack_of-length frames ∙ none)
-
-pub goes_otherwise : (begun : Begun) (site : Site) (mode : held_modes.Mode) (frames : List Frame) →
-    ((operand : Operand) → mode ≡ held_mode.Complete operand → ⊥) →
-    call_goes begun site (mode_of mode) frames ≡ within begun (expression site (mode_of mode) frames)
-goes_otherwise begun site (held_mode.Complete operand) frames not = absurd (not operand refl)
-goes_otherwise begun site _ frames not = refl
-
-pub read_otherwise : (begun : Begun) (site : held_sites.Site) (one : Annotation) →
-    ((holder : _) (annotations : _) →
-    site ≡ held_site.Annotation holder annotations → ⊥) →
-    ((fronted : _) (annotations : _) →
-    site ≡ held_site.Base fronted annotations → ⊥) →
-    call_read begun (site_of site) one ≡ item_wanted false
-read_otherwise begun (held_site.Annotation holder annotations) one first second =
-    absurd (first holder annotations refl)
-read_otherwise begun (held_site.Base fronted annotations) one first second =
-    absurd (second fronted annotations refl)
-read_otherwise begun _ one first second = refl
 
 pub longer_annotations : (annotations : List Anno) (one : Anno) →
     map annotation_of (annotations ++ one ∷ []) ≡ map annotation_of annotations ++ annotation_of one ∷ []

@@ -1,5 +1,5 @@
-ghost use Rattle.std.specs.Prelude.{◌≡◌, ◌++◌, ◌∷◌, [], map, Some, None, IfOk};
-ghost use Rattle.mdl_syntax.specs.Modules.{annotations_of, annotation_of, parameter_of, enum_value_of, default_of};
+ghost use Rattle.std.specs.Prelude.{◌≡◌, map, Some};
+ghost use Rattle.mdl_syntax.specs.Modules.{annotations_of, annotation_of, parameter_of, default_of};
 ghost use Rattle.mdl_grammar.specs.inside.ModuleViews.{ModuleCame, begun_of, holder_of, front_of};
 ghost use Rattle.module_grammar.specs.inside.ModuleMachine.{second_bracket as machine_second_bracket};
 ghost use Rattle.module_grammar.specs.inside.ModuleMachine.{own_step as machine_own, own_ends as machine_own_ends};

@@ -1,8 +1,8 @@
-ghost use Rattle.std.specs.Prelude.{◌≡◌, ◌++◌, ◌∷◌, ◌<◌, [], List, map, Some, None, suc, true, false};
+ghost use Rattle.std.specs.Prelude.{◌≡◌, ◌<◌, [], true, false};
 ghost use Rattle.mdl_syntax.specs.Trees.{tree_of};
 ghost use Rattle.mdl_syntax.specs.Modules.{annotation_of};
 ghost use Rattle.expression_grammar.specs.inside.Machine.{mode_step as machine_mode, wanted};
-ghost use Rattle.module_grammar.specs.inside.ModuleStates.{Begun as MachineBegun, within};
+ghost use Rattle.module_grammar.specs.inside.ModuleStates.{within};
 ghost use Rattle.module_grammar.specs.inside.ModuleMachine.{may_name as machine_may_name};
 ghost use Rattle.module_grammar.specs.inside.ModuleMachine.{call_step as machine_call, call_outcome as machine_outcome};
 ghost use Rattle.module_grammar.specs.inside.ModuleMachine.{call_goes as machine_goes};
@@ -13,7 +13,7 @@ ghost use Rattle.module_grammar.specs.inside.ModuleMachine.{is_call_site as mach
 ghost use Rattle.module_grammar.specs.inside.ModuleMachine.{first_annotation_step as machine_first};
 ghost use Rattle.mdl_grammar.specs.inside.ModuleViews.{ModuleCame, begun_of, site_of, holder_of, position_of};
 ghost use Rattle.module_grammar.specs.inside.ModuleStates.{item_wanted as machine_item_wanted, in_annotation};
-ghost use Rattle.expression_grammar.specs.inside.Views.{Came, mode_of, stack_of};
+ghost use Rattle.expression_grammar.specs.inside.Views.{mode_of, stack_of};
 ghost use Rattle.expression_grammar.specs.inside.SortViews.{sort_view};
 
 use crate::module_state::{

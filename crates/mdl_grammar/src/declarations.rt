@@ -1,8 +1,8 @@
-ghost use Rattle.std.specs.Prelude.{◌≡◌, ◌++◌, ◌∷◌, [], map, Some, None, OnOk};
+ghost use Rattle.std.specs.Prelude.{◌≡◌, map, Some, None};
 ghost use Rattle.mdl_syntax.specs.Trees.{tree_of};
 ghost use Rattle.mdl_syntax.specs.Modules.{annotations_of, annotation_of, parameter_of, declaration_of};
 ghost use Rattle.mdl_grammar.specs.inside.ModuleViews.{ModuleCame, begun_of, named_of, fronted_of, struct_of, enum_of};
-ghost use Rattle.module_grammar.specs.inside.ModuleStates.{Outcome, on, with_declaration as machine_with_declaration};
+ghost use Rattle.module_grammar.specs.inside.ModuleStates.{on, with_declaration as machine_with_declaration};
 ghost use Rattle.module_grammar.specs.inside.ModuleStates.{function_from as machine_function_from};
 ghost use Rattle.module_grammar.specs.inside.ModuleStates.{is_material as machine_is_material};
 ghost use Rattle.module_grammar.specs.inside.ModuleStates.{prototype_from as machine_prototype_from};

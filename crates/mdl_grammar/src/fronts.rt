@@ -1,4 +1,4 @@
-ghost use Rattle.std.specs.Prelude.{◌≡◌, ◌++◌, ◌∷◌, [], List, map, Some, None, IfOk};
+ghost use Rattle.std.specs.Prelude.{◌≡◌, List, Some, None, IfOk};
 ghost use Rattle.expression_grammar.specs.inside.Machine.{Step};
 ghost use Rattle.module_grammar.specs.inside.ModuleMachine.{front_goes as machine_front_goes};
 ghost use Rattle.module_grammar.specs.inside.ModuleMachine.{front_outcome as machine_front_outcome};
@@ -12,7 +12,7 @@ ghost use Rattle.mdl_grammar.specs.inside.ModuleViews.{front_of, ModuleCame, beg
 ghost use Rattle.mdl_grammar.specs.inside.ModuleViews.{position_of};
 ghost use Rattle.mdl_grammar.specs.inside.ModuleViews.{deferred_fronting};
 ghost use Rattle.expression_grammar.specs.declared.frame.Frame.{Frame as HeldFrame};
-ghost use Rattle.expression_grammar.specs.inside.Views.{Came, head_of, mode_of, stack_of};
+ghost use Rattle.expression_grammar.specs.inside.Views.{Came, head_of, mode_of};
 ghost use Rattle.expression_grammar.specs.inside.SortViews.{sort_view};
 
 use crate::module_state::{

@@ -1,5 +1,5 @@
-ghost use Rattle.std.specs.Prelude.{◌≡◌, ◌++◌, ◌∷◌, [], map, Some, None, IfOk};
-ghost use Rattle.mdl_syntax.specs.Modules.{annotations_of, annotation_of, parameter_of, declaration_of};
+ghost use Rattle.std.specs.Prelude.{◌≡◌, ◌++◌, ◌∷◌, [], map, None, IfOk};
+ghost use Rattle.mdl_syntax.specs.Modules.{annotations_of, parameter_of};
 ghost use Rattle.mdl_grammar.specs.inside.ModuleViews.{ModuleCame, begun_of, named_of, fronted_of, front_of, owner_of};
 ghost use Rattle.module_grammar.specs.inside.ModuleMachine.{declared_step as machine_declared};
 ghost use Rattle.module_grammar.specs.inside.ModuleMachine.{parameters_state as machine_parameters_state};

@@ -1,4 +1,4 @@
-ghost use Rattle.std.specs.Prelude.{◌≡◌, ◌++◌, ◌∷◌, [], Some, None};
+ghost use Rattle.std.specs.Prelude.{◌≡◌, Some, None};
 ghost use Rattle.module_grammar.specs.inside.ModuleMachine.{import_step as machine_import};
 ghost use Rattle.module_grammar.specs.inside.ModuleMachine.{import_ends as machine_import_ends};
 ghost use Rattle.module_grammar.specs.inside.ModuleMachine.{import_item as machine_item};

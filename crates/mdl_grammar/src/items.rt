@@ -1,4 +1,4 @@
-ghost use Rattle.std.specs.Prelude.{◌≡◌, ◌++◌, ◌∷◌, [], map, Some, None, true};
+ghost use Rattle.std.specs.Prelude.{◌≡◌, map, Some, None, true};
 ghost use Rattle.mdl_syntax.specs.Modules.{parameter_of};
 ghost use Rattle.module_grammar.specs.inside.ModuleMachine.{declaration_step as machine_declaration};
 ghost use Rattle.module_grammar.specs.inside.ModuleMachine.{item_step as machine_item};

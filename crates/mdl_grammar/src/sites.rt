@@ -1,6 +1,6 @@
-ghost use Rattle.std.specs.Prelude.{◌≡◌, ◌++◌, ◌∷◌, [], List, map, Some, None, Err};
+ghost use Rattle.std.specs.Prelude.{◌≡◌, [], Some, None, Err};
 ghost use Rattle.mdl_syntax.specs.Trees.{tree_of};
-ghost use Rattle.mdl_syntax.specs.Modules.{parameter_of, annotation_of, annotations_of};
+ghost use Rattle.mdl_syntax.specs.Modules.{parameter_of};
 ghost use Rattle.mdl_grammar.specs.declared.ends.End.TheVariants as end;
 ghost use Rattle.mdl_grammar.specs.declared.module_state.Begun.{Begun as HeldBegun};
 ghost use Rattle.mdl_grammar.specs.declared.module_state.Holder.TheVariants as holders;
@@ -18,7 +18,7 @@ ghost use Rattle.module_grammar.specs.inside.ModuleStates.{plain_parameter as ma
 ghost use Rattle.module_grammar.specs.inside.ModuleMachine.{unless_wrong as machine_unless_wrong};
 ghost use Rattle.module_grammar.specs.inside.ModuleStates.{Site as MachineSite};
 ghost use Rattle.mdl_grammar.specs.inside.ModuleViews.{ModuleCame, StopIn, begun_of, site_of, holder_of, front_of};
-ghost use Rattle.expression_grammar.specs.inside.Views.{Came, mode_of, stack_of};
+ghost use Rattle.expression_grammar.specs.inside.Views.{mode_of, stack_of};
 ghost use Rattle.expression_grammar.specs.inside.SortViews.{sort_view};
 
 use crate::annotations::parameter_from;

@@ -1,6 +1,5 @@
-ghost use Rattle.std.specs.Prelude.{◌≡◌, ◌++◌, ◌∷◌, [], map, Some, None, IfOk};
-ghost use Rattle.mdl_syntax.specs.Modules.{annotations_of, parameter_of, enum_value_of, structure, enumeration};
-ghost use Rattle.expression_grammar.specs.inside.Machine.{from_to};
+ghost use Rattle.std.specs.Prelude.{◌≡◌, Some, None, IfOk};
+ghost use Rattle.mdl_syntax.specs.Modules.{annotations_of, parameter_of, enum_value_of};
 ghost use Rattle.mdl_grammar.specs.inside.ModuleViews.{ModuleCame, begun_of, named_of, front_of, struct_of, enum_of};
 ghost use Rattle.module_grammar.specs.inside.ModuleMachine.{struct_annotated as machine_struct_annotated};
 ghost use Rattle.module_grammar.specs.inside.ModuleMachine.{struct_named_step as machine_struct_named};

@@ -1,4 +1,4 @@
-ghost use Rattle.std.specs.Prelude.{◌≡◌, ◌++◌, ◌∷◌, [], Some, None};
+ghost use Rattle.std.specs.Prelude.{Some, None};
 ghost use Rattle.module_grammar.specs.inside.ModuleMachine.{used_ends as machine_used_ends};
 ghost use Rattle.module_grammar.specs.inside.ModuleMachine.{using_step as machine_using};
 ghost use Rattle.module_grammar.specs.inside.ModuleMachine.{used_wanted_step as machine_used_wanted};

@@ -4,9 +4,7 @@ ghost use Rattle.module_grammar.specs.inside.ModuleMachine.{before_body as machi
 ghost use Rattle.module_grammar.specs.inside.ModuleMachine.{behind_parameter as machine_behind_parameter, if_deferred};
 ghost use Rattle.module_grammar.specs.inside.ModuleMachine.{deferred_of_owner as machine_of_owner};
 ghost use Rattle.module_grammar.specs.inside.ModuleMachine.{deferred_of_holder as machine_of_holder};
-ghost use Rattle.module_grammar.specs.inside.ModuleMachine.{deferred_of_site as machine_of_site};
-ghost use Rattle.expression_grammar.specs.inside.Machine.{is_deferred as machine_is_deferred};
-ghost use Rattle.mdl_grammar.specs.inside.ModuleViews.{position_of, owner_of, holder_of, site_of, verdict_view};
+ghost use Rattle.mdl_grammar.specs.inside.ModuleViews.{position_of, owner_of, holder_of, verdict_view};
 ghost use Rattle.expression_grammar.specs.inside.Views.{mode_of};
 
 use crate::module_state::{Fronting, Holder, Owner, Position, Site};

@@ -43,18 +43,6 @@ dropped_length class (char ∷ text) = by (class char) refl (dropped_length clas
           is),
     )
 
--- what is left begins with no character of the class
-pub dropped_begins : (class : ℕ → Bool) (text : List ℕ) → begins class (drop_while class text) ≡ false
-dropped_begins class [] = refl
-dropped_begins class (char ∷ text) = by (class char) refl (dropped_begins class text)
-  where
-    by : (b : Bool) → class char ≡ b → begins class (drop_while class text) ≡ false →
-        begins class (drop_while class (char ∷ text)) ≡ false
-    by true is later = ap (begins class) (cond-true (class char) (drop_while class text) (char ∷ text) is)
-        ∙ later
-    by false is later = ap (begins class) (cond-false (class char) (drop_while class text) (char ∷ text) is)
-        ∙ is
-
 abbrev pub tail_of : List ℕ → List ℕ
 tail_of [] = []
 tail_of (char ∷ text) = text

@@ -1,7 +1,7 @@
 ghost use Rattle.std.specs.Prelude.{◌<◌, ◌≡◌, ◌∷◌, true, chars, length, IfOk};
 ghost use Rattle.mdl_lexer.specs.WordTables.{reserved_in_use, reserved_left_out};
 ghost use Rattle.mdl_lexer.specs.WordTables.{marks_in_use, marks_left_out};
-ghost use Rattle.mdl_lexer.specs.Characters.{is_digit, starts_name};
+ghost use Rattle.mdl_lexer.specs.Characters.{starts_name};
 ghost use Rattle.mdl_lexer.specs.inside.Cutting.{IsRest, begins};
 ghost use Rattle.mdl_lexer.specs.inside.Reading.{begins_number};
 ghost use Rattle.mdl_lexer.specs.inside.Reads.{Reads};

@@ -164,13 +164,6 @@ module_sort_fits limit token state (left_out text) place word is room fits = tt
 module_sort_fits limit token state sort place word is room fits =
     state_fits limit token state sort place word is room fits
 
--- the machine keeps what it keeps
-pub module_fits_step : (limit number : ℕ) (state : State) (token : Token) (then : State) → 1 ≤ limit →
-    ModuleFits limit state → module_step limit number state token ≡ on then → ModuleFits limit then
-module_fits_step limit number state token then room fits is =
-    subst (OutcomeFits limit) is (module_sort_fits limit number state (sort_of token.kind)
-    (from_to token.at token.end) token.kind (is_of_sort token.kind) room fits)
-
 -- what is permitted is what the machine steps to
 
 judged_fits : (limit : ℕ) (state : State) (verdict : Verdict) → ModuleFits limit state →

@@ -1,5 +1,5 @@
 -- By its word, a token that is left out of modules is left out for one reason.
-use Rattle.std.proofs.Common.{◌≡◌, ◌∙◌, sym, ap, refl, ℕ, Bool, ◌==◌, List, Option, Some, None}
+use Rattle.std.proofs.Common.{◌≡◌, ◌∙◌, sym, ap, refl, ℕ, ◌==◌, List, Option, Some, None}
 use Rattle.std.proofs.Common.{codes, if◌then◌else◌}
 use Rattle.std.proofs.lemmas.Option.{same_Some, none-some}
 use Rattle.mdl_lexer.specs.Kinds.{mark_word}
@@ -55,8 +55,3 @@ pub form_no_brace : (before : List Token) (token : Token) (text : List ℕ) →
     LeftOutBy before token text → IsMark token (codes "{") → ⊥
 form_no_brace before token text form brace =
     no_form before token text form (mark_word (codes "{")) brace.is refl
-
-pub form_no_real : (before : List Token) (token : Token) (text number : List ℕ) (double : Bool) →
-    LeftOutBy before token text → token.kind ≡ kind.Real number double → ⊥
-form_no_real before token text number double form is =
-    no_form before token text form (kind.Real number double) is refl

@@ -1,12 +1,12 @@
 -- Within the arguments of a call, the machine keeps that call as the outermost form.
 use Rattle.std.proofs.Common.{◌≡◌, ◌==◌, refl, ℕ, suc, Bool, true, false, List, []}
-use Rattle.std.proofs.Common.{◌∷◌, codes, Option, None, if◌then◌else◌}
+use Rattle.std.proofs.Common.{◌∷◌, codes, None, if◌then◌else◌}
 use Rattle.std.proofs.lemmas.Bool.{false≢true}
 use Rattle.mdl_syntax.specs.declared.names.Span.{Span}
 use Rattle.mdl_syntax.specs.declared.names.Name.{Name}
 use Rattle.mdl_syntax.specs.declared.names.Ident.{Ident}
 use Rattle.mdl_syntax.specs.Heights.{height}
-use Rattle.mdl_syntax.specs.Trees.{Tree, Argument, literal}
+use Rattle.mdl_syntax.specs.Trees.{Tree, literal}
 use Rattle.mdl_syntax.specs.Levels.{mark_number}
 use Rattle.expression_grammar.specs.inside.Machine.{Sort, Mode, Frame, Step, Path, Purpose, Head}
 use Rattle.expression_grammar.specs.inside.Machine.{goes, bad, deep, is_left_out, identifier, integer}
@@ -67,13 +67,6 @@ goes_on frame frames mode none form = any_mode mode frames (pop frame frames non
 swapped : (frame other : Frame) (frames : List Frame) → (IsArguments frame → ⊥) →
     Outermost frame frames → Outermost other frames
 swapped frame other frames none form = push other frames (pop frame frames none form)
-
-same_arguments : (name : Name) (one other : List Argument) (with_name with_other : Bool)
-    (label next : Option Ident) (frames : List Frame) →
-    Outermost (in_arguments name one with_name label) frames →
-    Outermost (in_arguments name other with_other next) frames
-same_arguments name one other with_name with_other label next [] form = tt
-same_arguments name one other with_name with_other label next (frame ∷ frames) form = form
 
 -- Reduction.
 

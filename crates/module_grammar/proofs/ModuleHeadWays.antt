@@ -23,9 +23,6 @@ abbrev IsOn : Outcome → Type 0
 IsOn (on state) = Unit {0}
 IsOn made = ⊥
 
-never_on : (made : Outcome) (after : State) → (IsOn made → ⊥) → made ≡ on after → ⊥
-never_on made after none is = none (subst IsOn (sym is) tt)
-
 judged_on : (state after : State) (verdict : Verdict) → judged state verdict ≡ on after → on state ≡
     on after
 judged_on state after passes is = is

@@ -184,12 +184,6 @@ left_out_so strict limit before token state text leads is =
 
 -- A step leaves nothing out at an earlier token.
 
-pub left_out_here : (limit number : ℕ) (state : State) (token : Token) (earlier : ℕ)
-    (text : List ℕ) → module_step limit number state token ≡ leaves_out (Some earlier) text → ⊥
-left_out_here limit number state token earlier text is =
-    subst (IsTold (LeavesBy state (sort_of token.kind))) is
-    (sort_told limit number state (sort_of token.kind) (from_to token.at token.end))
-
 -- What is of a form is left out.
 
 abbrev text_of : List ℕ → Step → List ℕ

@@ -182,10 +182,6 @@ pub last_end_any : (one other : ℕ) (tokens : List Token) → (tokens ≡ [] �
 last_end_any one other [] some = absurd (some refl)
 last_end_any one other (token ∷ tokens) some = refl
 
-pub first_some : (at : ℕ) (tokens : List Token) → First at tokens → tokens ≡ [] → ⊥
-first_some at [] first is = first
-first_some at (token ∷ tokens) first is = omega (arith, ap length is)
-
 -- from the first token to the end of those behind it
 pub long_place : (at : ℕ) (front rest : List Token) → First at (front ++ rest) →
     (rest ≡ [] → ⊥) → place_of (front ++ rest) ≡ from_to at (last_end 0 rest)

@@ -56,12 +56,6 @@ complete_shut limit tree frames semicolon own end is =
     semicolon_shut own.end (reduced 0 tree frames) is
 complete_shut limit tree frames sort own end is = absurd end
 
--- with room or without
-either_end : (test : Bool) (one : Finish) → IsFinished (if test then one else ends_deep) →
-    IsFinished one
-either_end true one is = is
-either_end false one is = absurd is
-
 room_end : (limit : ℕ) (frames : List Frame) (need : ℕ) (one : Finish) →
     IsFinished (unless_bad_end limit frames need one) → IsFinished one
 room_end limit frames need (finished tree) is = tt

@@ -1,6 +1,6 @@
 -- What more room changes for a step of the machine of modules: only what is too deep goes on.
 use Rattle.std.proofs.Common.{◌≡◌, ◌∙◌, sym, ap, subst, refl, arith, ℕ, ◌+◌, ◌≤◌, Bool, true, false}
-use Rattle.std.proofs.Common.{List, Some, if◌then◌else◌}
+use Rattle.std.proofs.Common.{Some, if◌then◌else◌}
 use Rattle.std.specs.Prelude.{nat_le}
 use Rattle.std.proofs.lemmas.Bool.{cond-true, cond-false, false≢true, le-leb, leb-true}
 use Rattle.mdl_lexer.specs.declared.token.Token.{Token}
@@ -123,21 +123,6 @@ pub module_never : (limit number : ℕ) (state : State) (token : Token) →
 module_never limit number state token =
     roomed_made (is_begun state) (λ room. module_step room number state token)
     (module_roomed number state token) limit
-
-pub never_waits : (limit number : ℕ) (state : State) (token : Token) (after : State) →
-    module_step limit number state token ≡ waits after → ⊥
-never_waits limit number state token after is =
-    subst IsMade is (module_never limit number state token)
-
-pub never_version : (limit number : ℕ) (state : State) (token : Token) →
-    module_step limit number state token ≡ other_version → ⊥
-never_version limit number state token is =
-    subst IsMade is (module_never limit number state token)
-
-pub never_before : (limit number : ℕ) (state : State) (token : Token) (earlier : ℕ)
-    (text : List ℕ) → module_step limit number state token ≡ leaves_out (Some earlier) text → ⊥
-never_before limit number state token earlier text is =
-    subst IsMade is (module_never limit number state token)
 
 -- inside a module a step stays inside
 abbrev pub IsInside : Outcome → Type 0

@@ -130,11 +130,6 @@ used_all_settled begun at name sort place = refl
 
 -- Types with a name behind them.
 
-deferred_settled : (at : ℕ) (begun : Begun) (of : Fronting) (mode : Mode) →
-    Settled (deferred_state at begun of mode)
-deferred_settled at begun (of_parameter owner parameters) mode = refl
-deferred_settled at begun of mode = refl
-
 -- it goes on inside the module
 abbrev pub IsOn : Outcome → Type 0
 IsOn (on (within begun position)) = Unit {0}

@@ -6,9 +6,8 @@ use Rattle.mdl_lexer.specs.declared.token.Token.{Token}
 use Rattle.mdl_syntax.specs.Modules.{ModuleTree}
 use Rattle.mdl_syntax.specs.WrittenModules.{write_module}
 use Rattle.mdl_syntax.specs.PlacedModules.{placed_module}
-use Rattle.expression_grammar.specs.Readings.{kinds}
 use Rattle.module_grammar.specs.inside.ModuleParts.{Part}
-use Rattle.module_grammar.specs.inside.ModuleStates.{Begun, State, Outcome, on, wrong, too_deep}
+use Rattle.module_grammar.specs.inside.ModuleStates.{State, Outcome, on, wrong, too_deep}
 use Rattle.module_grammar.specs.inside.ModuleStates.{leaves_out}
 use Rattle.module_grammar.specs.inside.ModuleStates.{statement_body, other_version, mdl_wanted}
 use Rattle.module_grammar.specs.inside.ModuleStates.{within}
@@ -24,11 +23,11 @@ use Rattle.mdl_syntax.specs.declared.modules.VersionLit.{VersionLit}
 use Rattle.mdl_syntax.specs.AcceptedModules.{is_version}
 use Rattle.module_grammar.specs.inside.ModuleMachine.{ModuleRun, module_read, module_end}
 use Rattle.module_grammar.specs.inside.ModuleMachine.{run_module_from}
-use Rattle.module_grammar.specs.inside.ModuleMachine.{run_module, outcome_after, place_behind}
+use Rattle.module_grammar.specs.inside.ModuleMachine.{outcome_after, place_behind}
 use Rattle.module_grammar.specs.inside.ModuleHolds.{ModuleHolds}
 use Rattle.module_grammar.proofs.ModuleJoinLaws.{OutcomeHolds}
 use Rattle.module_grammar.proofs.ModuleFormsLaws.{forms_keep}
-use Rattle.module_grammar.proofs.ModuleSoundLaws.{step_keeps, module_stands, whole_module}
+use Rattle.module_grammar.proofs.ModuleSoundLaws.{step_keeps, module_stands}
 
 pub module_sound_step : (limit number : ℕ) (state : State) (tokens : List Token) (token : Token)
     (next : State) → ModuleHolds state tokens → module_step limit number state token ≡ on next →
@@ -36,14 +35,6 @@ pub module_sound_step : (limit number : ℕ) (state : State) (tokens : List Toke
 module_sound_step limit number state tokens token next holds is =
     subst (λ outcome. OutcomeHolds outcome (tokens ++ token ∷ [])) is
     (step_keeps forms_keep limit number state tokens token holds)
-
--- where a module may end, it stands for all tokens
-pub module_sound_end : (begun : Begun) (early : Bool) (tokens : List Token) →
-    ModuleHolds (within begun (item_wanted early)) tokens →
-    (write_module (whole_module begun) ≡ kinds tokens)
-    × (placed_module (whole_module begun) tokens ≡ whole_module begun)
-module_sound_end begun early tokens holds =
-    let part = module_stands begun early tokens holds in (part.writes, part.places)
 
 -- the whole run
 
@@ -111,9 +102,3 @@ pub module_run_sound : (strict : Bool) (limit : ℕ) (tokens : List Token) (tree
 module_run_sound strict limit tokens tree is =
     subst (λ run. RunStands run tokens) is
     (run_stands strict limit 0 0 (on mdl_wanted) [] tokens refl)
-
-pub module_sound : (limit : ℕ) (tokens : List Token) (tree : ModuleTree) →
-    run_module limit tokens ≡ module_read tree →
-    (write_module tree ≡ kinds tokens) × (placed_module tree tokens ≡ tree)
-module_sound limit tokens tree is =
-    let part = module_run_sound true limit tokens tree is in (part.writes, part.places)

@@ -179,23 +179,3 @@ waited limit waiting number tokens state = by tokens number state (standing stat
         (module_step limit number state token) tokens)) (none waiting))
         (λ then. by tokens (suc number) then (standing then)) (module_step limit number state token)
         refl
-
--- a body is reached in one way
-pub reached_same : (limit number : ℕ) (state : State) (tokens : List Token) (a b : Option ℕ) →
-    ReachesBody limit number state tokens a → ReachesBody limit number state tokens b → a ≡ b
-reached_same limit number state tokens a b
-    (at_body _ begun fronted parameters frequency annotations mode frames _ _ one)
-    (at_body _ _ _ _ _ _ _ _ _ _ other) =
-    sym one ∙ other
-reached_same limit number state tokens a b
-    (at_body _ begun fronted parameters frequency annotations mode frames _ _ one)
-    (goes_to _ _ then token more _ goes is rest) =
-    absurd goes
-reached_same limit number state tokens a b (goes_to _ _ then token more _ goes is rest)
-    (at_body _ begun fronted parameters frequency annotations mode frames _ _ one) =
-    absurd goes
-reached_same limit number state tokens a b (goes_to _ _ then token more _ goes is rest)
-    (goes_to _ _ other _ _ _ also steps body) =
-    reached_same limit (suc number) then more a b rest
-    (subst (λ (s : State). ReachesBody limit (suc number) s more b)
-    (ap (state_in then) (sym steps ∙ is)) body)

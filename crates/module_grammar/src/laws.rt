@@ -1,6 +1,5 @@
 ghost use Rattle.std.specs.Prelude.{◌≡◌, ◌≤◌, ℕ, List, Some, take};
 ghost use Rattle.mdl_lexer.specs.declared.token.Token.{Token};
-ghost use Rattle.mdl_syntax.specs.Written.{write};
 ghost use Rattle.mdl_syntax.specs.Modules.{ModuleTree};
 ghost use Rattle.mdl_syntax.specs.WrittenModules.{write_module};
 ghost use Rattle.mdl_syntax.specs.PlacedModules.{placed_module, IsSameModule};

@@ -192,17 +192,6 @@ fails-later a b c old mid (fault.Parse name found place) reads fails = absurd fa
 fails-later a b c old mid fault.TooMany reads fails = absurd fails
 fails-later a b c old mid (fault.Cycle path) reads fails = absurd fails
 
-closure-fails : (before after : SourceState) (roots : List (List ℕ)) (first : List ModuleName) (entries : List Entry)
-    (found : LoadFault) → Fails before after found → HasClosureFault before after roots first entries found
-closure-fails before after roots first entries fault.ReadFault fails = fails
-closure-fails before after roots first entries fault.OutOfMemory fails = fails
-closure-fails before after roots first entries (fault.Absent asker place name) fails = absurd fails
-closure-fails before after roots first entries (fault.TooLong name) fails = absurd fails
-closure-fails before after roots first entries (fault.Lex name found place) fails = absurd fails
-closure-fails before after roots first entries (fault.Parse name found place) fails = absurd fails
-closure-fails before after roots first entries fault.TooMany fails = absurd fails
-closure-fails before after roots first entries (fault.Cycle path) fails = absurd fails
-
 -- what is known when a module is to be loaded
 pub record Comes (packages : Packages) (first names : List ModuleName) (all : List Linked) (name : ModuleName) : Type 0
   where

@@ -1,15 +1,16 @@
 -- Reads, each path once.
 use Rattle.std.proofs.Common.{◌≡◌, ℕ, suc, zero, ◌≤◌, ◌<◌, ◌==◌, Bool, true, false, List, [], ◌∷◌, ◌++◌, length}
 use Rattle.std.proofs.Common.{slice_get, position, nat_lt, not, ◌+◌, ◌||◌}
-use Rattle.std.proofs.Common.{refl, sym, ap, ◌∙◌, subst, arith, Option, Some, None, Result, Ok, Err, is_some, is_ok}
-use Rattle.std.proofs.Common.{IfSome}
+use Rattle.std.proofs.Common.{refl, sym, ap, ◌∙◌, subst, arith, Some, None, Result, Ok, Err, is_ok}
+use Rattle.std.proofs.Common.{IfSome, IfOk, OnOk, OnErr}
+use Rattle.case_table.specs.ListLaws.{slice_get-push}
 use Rattle.std.proofs.lemmas.List.{append-nil}
 use Rattle.std.specs.List.{AllByRecursion, IsDistinct, list_any, position_or_len, prefix_len}
 use Rattle.std.specs.Cmp.Lexicographic.{pointwise, bytes_decides}
 use Rattle.std.proofs.lemmas.Bool.{true≢false, false≢true, cond_both, cond-false, or_parts, ltb-false}
 use Rattle.std.proofs.lemmas.Option.{same_Some, none-some}
 use Rattle.indexmap.specs.IndexMap.{insert_entry}
-use Rattle.io_edge.specs.Source.{File, SourceState, Reads, IsWithin, Answers, file_at}
+use Rattle.io_edge.specs.Source.{File, SourceState, Reads, Answers, file_at}
 use Rattle.io_edge.specs.declared.source.Read.{Read}
 use Rattle.io_edge.specs.declared.source.Read.TheVariants as read
 use Rattle.module_loader.specs.declared.contents.Content.{Content}
@@ -17,8 +18,7 @@ use Rattle.module_loader.specs.declared.contents.Content.TheVariants as content
 use Rattle.module_loader.specs.declared.fault.LoadFault.{LoadFault}
 use Rattle.module_loader.specs.Files.{most_module}
 use Rattle.module_loader.specs.inside.Contents.{Entry, AreRead, Reading, Fails, paths, content_of, IsShort, Tells}
-use Rattle.module_loader.specs.inside.Contents.{Agree}
-use Rattle.module_loader.specs.inside.Contents.{StandsAt, content_at}
+use Rattle.module_loader.specs.inside.Contents.{Agree, StandsAt, content_at}
 
 -- what holds of each member of two lists holds of each of both
 pub all-append : {A : Type 0} (P : A → Type 0) (xs ys : List A) → AllByRecursion P xs → AllByRecursion P ys →
@@ -120,10 +120,6 @@ stands-known path entries index within found =
     let same = (bytes_decides path here.entry.0).0 here.passes in
     (here.entry.1, here.at ∙ ap (λ p. Some (p, here.entry.1)) (sym same))
 
-pub none-of : {A : Type 0} (found : Option A) → is_some found ≡ false → found ≡ None
-none-of None h = refl
-none-of (Some x) h = absurd (true≢false h)
-
 abbrev value_of : Content → Result Content LoadFault → Content
 value_of other (Ok what) = what
 value_of other (Err found) = other
@@ -149,16 +145,8 @@ tells path read.TooLong what files told is =
 tells path read.Failed what files told is = absurd (false≢true (ap is_ok is))
 tells path read.OutOfMemory what files told is = absurd (false≢true (ap is_ok is))
 
-short-read : (path : List ℕ) (answer : Read) (what : Content) → IsWithin answer most_module →
-    content_of answer ≡ Ok what → IsShort (path, what)
-short-read path (read.Found bytes) what within is = subst (λ what. IsShort (path, what)) (ap (value_of what) is) within
-short-read path read.Absent what within is = subst (λ what. IsShort (path, what)) (ap (value_of what) is) tt
-short-read path read.TooLong what within is = subst (λ what. IsShort (path, what)) (ap (value_of what) is) tt
-short-read path read.Failed what within is = absurd (false≢true (ap is_ok is))
-short-read path read.OutOfMemory what within is = absurd (false≢true (ap is_ok is))
-
 -- one more path that was read
-pub read-more : (path : List ℕ) (answer : Read) (what : Content) (before after : SourceState)
+read-more : (path : List ℕ) (answer : Read) (what : Content) (before after : SourceState)
     (old new : List Entry) → Reads path most_module answer before after → content_of answer ≡ Ok what →
     new ≡ old ++ (path, what) ∷ [] → Reading before after old new
 read-more path answer what before after old new reads is made = record {
@@ -193,6 +181,26 @@ unread path answer before after entries reads = record {
   agrees = λ files told agree. agree;
 }
 
+-- a path that was read now, whether there was memory to keep it or not
+pub read-learned : (path : List ℕ) (answer : Read) (what : Content) (before after : SourceState)
+    (old new : List Entry) (result : Result ℕ LoadFault) → Reads path most_module answer before after →
+    content_of answer ≡ Ok what → OnOk result (new ≡ old ++ (path, what) ∷ []) → OnErr result (new ≡ old) →
+    Reading before after old new
+read-learned path answer what before after old new (Ok index) reads is learned unchanged =
+    read-more path answer what before after old new reads is learned
+read-learned path answer what before after old new (Err found) reads is learned unchanged =
+    subst (Reading before after old) (sym unchanged) (unread path answer before after old reads)
+
+pub stands-learned : (path : List ℕ) (what : Content) (old new : List Entry) (result : Result ℕ LoadFault) →
+    OnOk result (new ≡ old ++ (path, what) ∷ []) → IfOk result (λ index. index ≡ length old) →
+    IfOk result (StandsAt new path)
+stands-learned path what old new (Ok index) learned last = (
+  what,
+  ap (λ entries. slice_get entries index) learned
+      ∙ ap (slice_get (old ++ (path, what) ∷ [])) last ∙ slice_get-push old (path, what),
+)
+stands-learned path what old new (Err found) learned last = tt
+
 fails : (path : List ℕ) (answer : Read) (found : LoadFault) (before after : SourceState) →
     Reads path most_module answer before after → content_of answer ≡ Err found → Fails before after found
 fails path (read.Found bytes) found before after reads is = absurd (true≢false (ap is_ok is))
@@ -202,12 +210,6 @@ fails path read.Failed found before after reads is =
     subst (Fails before after) (ap (fault_of found) is)
     (reads.failed refl, λ steady. (reads.stays_steady steady).succeeds refl)
 fails path read.OutOfMemory found before after reads is = subst (Fails before after) (ap (fault_of found) is) tt
-
-pub failed-read : (path : List ℕ) (answer : Read) (found : LoadFault) (before after : SourceState)
-    (entries : List Entry) → Reads path most_module answer before after → content_of answer ≡ Err found →
-    Reading before after entries entries × Fails before after found
-failed-read path answer found before after entries reads is =
-    (unread path answer before after entries reads, fails path answer found before after reads is)
 
 pub distinct-short : (path : List ℕ) (what : Content) (old new : List Entry) → AreRead old →
     IsDistinct (pointwise ◌==◌) (paths new) → IsShort (path, what) → new ≡ old ++ (path, what) ∷ [] → AreRead new

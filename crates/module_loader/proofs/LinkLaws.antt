@@ -96,10 +96,6 @@ members-are : (all : List Linked) →
 members-are [] = refl
 members-are (one ∷ all) = ap (λ more. linked_member one ∷ more) (members-are all)
 
-names-linked : (all : List Linked) → member_names (linked_members all) ≡ map (λ (one : Linked). one.name) all
-names-linked [] = refl
-names-linked (one ∷ all) = ap (λ more. one.name ∷ more) (names-linked all)
-
 -- a closure without cycles is loaded
 pub loaded-set : OneReading → (packages : Packages) (first : List ModuleName) (all : List Linked) (set : ModuleSet) →
     IsClosed packages first all → HasNoCycle (links_of all) →

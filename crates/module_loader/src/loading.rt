@@ -1,5 +1,4 @@
 ghost use Rattle.std.specs.Prelude.{◌≡◌, map, string_bytes, IfOk, IfErr};
-ghost use Rattle.case_table.specs.Lists.{firsts};
 ghost use Rattle.module_set.specs.ModuleSets.{IsModuleSet};
 ghost use Rattle.module_loader.specs.Loads.{Loads, FailsToLoad, SourceKept};
 ghost use Rattle.module_loader.specs.LoadFaults.{name_at};

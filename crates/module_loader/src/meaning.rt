@@ -1,6 +1,6 @@
 ghost use Rattle.std.specs.Prelude.{◌≡◌, ◌++◌, map, string_bytes, IfOk, IfErr};
 ghost use Rattle.module_set.specs.Names.{named, package_of};
-ghost use Rattle.module_set.specs.Imports.{references_in, references, components, within, package_up};
+ghost use Rattle.module_set.specs.Imports.{within, package_up};
 ghost use Rattle.module_loader.specs.inside.Contents.{Reading, Fails};
 ghost use Rattle.module_loader.specs.inside.Loading.{IsMeant, IsBare, HasFile};
 

@@ -1,5 +1,4 @@
-ghost use Rattle.std.specs.Prelude.{◌≡◌, ◌≤◌, map, length, string_bytes, Some, IfOk, IfErr, IfSome};
-ghost use Rattle.io_edge.specs.Source.{SourceState};
+ghost use Rattle.std.specs.Prelude.{◌≤◌, map, length, string_bytes, Some, IfOk, IfErr};
 ghost use Rattle.module_loader.specs.inside.Contents.{Reading};
 ghost use Rattle.module_loader.specs.inside.Loading.{IsLoaded, HasMemberFault, ReadIn};
 

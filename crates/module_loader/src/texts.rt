@@ -5,9 +5,8 @@ ghost use Rattle.mdl_lexer.specs.Places.{IsPlace, HasPlace};
 ghost use Rattle.mdl_syntax.specs.Modules.{module_of};
 ghost use Rattle.mdl_syntax.specs.Heights.{most_height};
 ghost use Rattle.mdl_grammar.specs.Answers.{HasModuleFault};
-ghost use Rattle.module_set.specs.Imports.{references};
 ghost use Rattle.module_loader.specs.Members.{IsModuleText};
-ghost use Rattle.module_loader.specs.TextFaults.{token_of, byte_of, place_in};
+ghost use Rattle.module_loader.specs.TextFaults.{token_of, byte_of};
 ghost use Rattle.module_loader.specs.inside.Texts.{HasTextFault, ArePlaces};
 
 use expression_grammar::ParseFault;

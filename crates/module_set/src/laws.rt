@@ -1,4 +1,4 @@
-ghost use Rattle.std.specs.Prelude.{◌≡◌, List, ℕ, true};
+ghost use Rattle.std.specs.Prelude.{◌≡◌, List, ℕ};
 ghost use Rattle.case_table.specs.Lists.{Tells};
 ghost use Rattle.module_set.specs.Names.{same_name};
 ghost use Rattle.module_set.specs.Cycles.{IsFirstCycle};

@@ -65,9 +65,6 @@ abbrev pub alike : (Declared → List Ty) → Declared → Declared → Bool
 alike types one earlier =
     pointwise same_type (types earlier) (types one) && alike_sorts earlier.entity.sort one.entity.sort
 
-abbrev pub apart_from : (Declared → List Ty) → Declared → Declared → Bool
-apart_from types one earlier = not (may_stand types earlier one)
-
 any-or : (p q : Declared → Bool) (all : List Declared)
     → list_any (λ one. p one || q one) all ≡ (list_any p all || list_any q all)
 any-or p q [] = refl

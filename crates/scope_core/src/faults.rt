@@ -133,7 +133,7 @@ fn twice_in(
         let entity = &entities[index];
         if let Some(at) = places.get(index) {
             if let Some(taken) = settled.taken(Place { module, index }) {
-                let name = table.own.number(&entity.name);
+                let name = table.own.number_at(index);
                 let fault = ScopeFault::Twice {
                     module: number,
                     at: *at,

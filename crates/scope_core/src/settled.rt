@@ -1,5 +1,5 @@
 ghost use Rattle.std.specs.Prelude.{◌≡◌, ◌<◌, ◌||◌, [], None, Some, List, map, length, replicate, slice_index_or};
-ghost use Rattle.std.specs.Prelude.{IfOk, OnOk};
+ghost use Rattle.std.specs.Prelude.{slice_get, IfOk, OnOk};
 ghost use Rattle.std.specs.List.{list_any};
 ghost use Rattle.type_rules.specs.Types.{plain};
 ghost use Rattle.scope_tables.specs.Types.{is_callable, is_deferred, has_deferred};
@@ -14,6 +14,7 @@ ghost use Rattle.scope_core.specs.inside.Rounds.{Describes, Stays, SettlesBy, Se
 ghost use Rattle.scope_core.specs.inside.Rounds.{SettlesVariant};
 ghost use Rattle.scope_core.specs.inside.Rounds.{Closes, SettlesListed, SettlesVariants, SettlesModule};
 ghost use Rattle.scope_core.specs.inside.Rounds.{SettlesModules, AreSettled};
+ghost use Rattle.scope_tables.specs.declared.entity.Entity.{Entity};
 ghost use Rattle.scope_tables.specs.Entities.{Declared};
 ghost use Rattle.scope_tables.specs.Visible.{World};
 ghost use Rattle.scope_tables.specs.inside.Order.{IsOrder};
@@ -521,7 +522,7 @@ fn key_at(
     match table.own.list().get(index) {
         Some(entity) => {
             if is_asked(entity.sort, definition) {
-                key_of(table, entity, taken_at(taken, index))
+                key_of(table, index, taken_at(taken, index))
             } else {
                 None
             }
@@ -540,11 +541,12 @@ fn is_asked(sort: Sort, definition: bool) -> bool
     }
 }
 
-fn key_of(table: &Table, entity: &Entity, taken: Option<usize>) -> Option<(usize, usize)>
-    ensures { result ≡ key_of table.now.own entity.now taken }
+fn key_of(table: &Table, index: usize, taken: Option<usize>) -> Option<(usize, usize)>
+    ensures { (entity : Entity) → slice_get table.now.own index ≡ Some entity
+        → result ≡ key_of table.now.own entity taken }
 {
     match taken {
-        Some(taken) => Some((table.own.number(&entity.name), taken)),
+        Some(taken) => Some((table.own.number_at(index), taken)),
         None => None,
     }
 }

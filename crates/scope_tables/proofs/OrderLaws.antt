@@ -15,7 +15,8 @@ use Rattle.module_set.specs.Cycles.{leads, leads_over, HasNoCycle}
 use Rattle.scope_tables.specs.declared.order.Opened.{Opened}
 use Rattle.scope_tables.specs.declared.order.Walk.{Walk}
 use Rattle.scope_tables.specs.inside.Order.{is_among, are_below, AreWithin, IsOrder}
-use Rattle.scope_tables.specs.inside.Ordering.{targets_of, modules, begun, gone_on, IsFresh, IsBehind, StandUnder, Stand}
+use Rattle.scope_tables.specs.inside.Ordering.{targets_of, modules, begun, gone_on, IsFresh, IsBehind, StandUnder}
+use Rattle.scope_tables.specs.inside.Ordering.{Stand}
 use Rattle.scope_tables.specs.inside.Ordering.{IsWalk, unseen, left, visited, Keeps, Visits, Steps, Ends, Walked}
 use Rattle.scope_tables.proofs.MemberLaws.{numbers, turned, all-at, any-at, both-all}
 

@@ -4,16 +4,19 @@ use Rattle.std.proofs.Common.{option_map, ◌||◌, map, length, slice_get, slic
 use Rattle.std.proofs.Common.{subst, arith, not, if◌then◌else◌, nat_lt, ◌<◌, ◌==◌}
 use Rattle.std.specs.List.{list_any, AllByRecursion, IsDistinct, position, position_or_len}
 use Rattle.std.specs.Cmp.Lexicographic.{bytes_decides}
-use Rattle.std.proofs.lemmas.Bool.{false≢true, false_from_ne_true, cond-true, cond-false, or_parts, ltb-false}
-use Rattle.std.proofs.lemmas.List.{map-append, append-nil, get_or-map, length-map}
+use Rattle.std.proofs.lemmas.Bool.{false≢true, false_from_ne_true, cond-true, cond-false, cond_both, or_parts}
+use Rattle.std.proofs.lemmas.Bool.{ltb-false, or_left, or_right, eqb-true}
+use Rattle.std.proofs.lemmas.List.{map-append, append-nil, append_assoc, get_or-map, length-map}
+use Rattle.std.proofs.lemmas.List.Folds.{position_or_len_push, list_any-append}
 use Rattle.std.proofs.lemmas.List.Quantifiers.{position-Some}
 use Rattle.std.proofs.lemmas.List.Sums.{prefix_len-le-length, passes_at_first}
-use Rattle.std.proofs.lemmas.Option.{same_Some, none-some, slice_get-map}
+use Rattle.std.proofs.lemmas.Option.{same_Some, none-some, slice_get-map, get_or_from_slice_get}
 use Rattle.std.proofs.lemmas.Bool.{eq-eqb, ne_eqb}
 use Rattle.case_table.specs.Lists.{Tells, with_first, firsts, firsts_onto}
 use Rattle.case_table.specs.ListLaws.{firsts-push, with_first-known, with_first-new, length-firsts_onto-le}
 use Rattle.scope_tables.specs.declared.entity.Entity.{Entity}
 use Rattle.scope_tables.specs.inside.Owning.{same_text, names_in, indices_from, indices_of, AreOwn, number_in}
+use Rattle.scope_tables.specs.inside.Owning.{numbers_of}
 use Rattle.scope_tables.proofs.MemberLaws.{turned, any-firsts_onto}
 
 pub same_text-tells : Tells same_text
@@ -262,3 +265,71 @@ same-number entities one other known there = by (same_text other one) refl
         (name-at entities one known ∙ ap (λ n. get_or (all_names entities) n []) e ∙ sym (name-at entities other there))
         ∙ same_text-tells.itself other))
         ∙ sym apart
+
+-- a name that stands keeps its number where one more comes
+number-stays : (names : List (List ℕ)) (more name : List ℕ) → list_any (same_text name) names ≡ true
+    → position_or_len (same_text name) (with_first same_text names more) ≡ position_or_len (same_text name) names
+number-stays names more name known =
+    let place = position_or_len (same_text name) names in
+    cond_both (list_any (same_text more) names) names (names ++ more ∷ [])
+    (λ l. position_or_len (same_text name) l ≡ place) (λ there. refl)
+    (λ new. position_or_len_push (same_text name) names more
+    ∙ cond-false (place == length names) (length names + cond (same_text name more) 0 1) place
+    (ne_eqb place (length names) (λ end. omega (arith, first-within (same_text name) names known, end))))
+
+-- and one that comes has the number at which it was looked for
+number-comes : (names : List (List ℕ)) (name : List ℕ)
+    → position_or_len (same_text name) (with_first same_text names name) ≡ position_or_len (same_text name) names
+number-comes names name =
+    let place = position_or_len (same_text name) names in
+    cond_both (list_any (same_text name) names) names (names ++ name ∷ [])
+    (λ l. position_or_len (same_text name) l ≡ place) (λ there. refl)
+    (λ new. position_or_len_push (same_text name) names name
+    ∙ cond_both (place == length names) (length names + cond (same_text name name) 0 1) place (λ n. n ≡ place)
+    (λ end. ap (λ b. length names + cond b 0 1) (same_text-tells.itself name)
+    ∙ omega (arith, eqb-true place (length names) end)) (λ before. refl))
+
+number-kept : (entities : List Entity) (entity : Entity) (name : List ℕ)
+    → list_any (same_text name) (names_in entities) ≡ true
+    → number_in (entities ++ entity ∷ []) name ≡ number_in entities name
+number-kept entities entity name known =
+    ap (position_or_len (same_text name)) (firsts-ends entities entity)
+    ∙ number-stays (all_names entities) entity.name name (among-names entities name known)
+
+numbers-kept : (entities : List Entity) (entity : Entity) (front part : List Entity) → front ++ part ≡ entities
+    → map (λ (one : Entity). number_in (entities ++ entity ∷ []) one.name) part
+    ≡ map (λ (one : Entity). number_in entities one.name) part
+numbers-kept entities entity front [] is = refl
+numbers-kept entities entity front (one ∷ part) is =
+    λ k. number-kept entities entity one.name known k
+    ∷ numbers-kept entities entity (front ++ one ∷ []) part (append_assoc front (one ∷ []) part ∙ is) k
+  where
+    known : list_any (same_text one.name) (names_in entities) ≡ true
+    known =
+        ap (λ all. list_any (same_text one.name) (names_in all)) (sym is)
+        ∙ ap (list_any (same_text one.name)) (map-append (λ (one : Entity). one.name) front (one ∷ part))
+        ∙ list_any-append (same_text one.name) (names_in front) (one.name ∷ names_in part)
+        ∙ or_right (list_any (same_text one.name) (names_in front)) (same_text one.name one.name
+        || list_any (same_text one.name) (names_in part))
+        (or_left (same_text one.name one.name) (list_any (same_text one.name) (names_in part))
+        (same_text-tells.itself one.name))
+
+-- the numbers of one more entity
+pub numbers-push : (entities : List Entity) (entity : Entity) (number : ℕ)
+    → number ≡ position_or_len (same_text entity.name) (all_names entities)
+    → numbers_of (entities ++ entity ∷ []) ≡ numbers_of entities ++ number ∷ []
+numbers-push entities entity number is =
+    map-append (λ (one : Entity). number_in (entities ++ entity ∷ []) one.name) entities (entity ∷ [])
+    ∙ (λ k. numbers-kept entities entity [] entities refl k ++ comes k ∷ [])
+  where
+    comes : number_in (entities ++ entity ∷ []) entity.name ≡ number
+    comes =
+        ap (position_or_len (same_text entity.name)) (firsts-ends entities entity)
+        ∙ number-comes (all_names entities) entity.name ∙ sym is
+
+pub number-read : (entities : List Entity) (i d : ℕ) (entity : Entity) → slice_get entities i ≡ Some entity
+    → get_or (numbers_of entities) i d ≡ number_in entities entity.name
+number-read entities i d entity at =
+    get_or_from_slice_get (numbers_of entities) i (number_in entities entity.name) d
+    (slice_get-map (λ (one : Entity). number_in entities one.name) entities i
+    ∙ ap (option_map (λ (one : Entity). number_in entities one.name)) at)

@@ -4,9 +4,6 @@
 mod symbol;
 mod ty;
 
-ghost use Rattle.type_rules.specs.Texts.{symbol_text};
-ghost use Rattle.type_rules.specs.Postorder.{canon};
-
 pub use symbol::Symbol;
 pub use ty::{Arg, Shape, Ty};
 

@@ -29,3 +29,7 @@ pub record AreOwn (entities : List Entity) (names : List (List ℕ)) (lists : Li
 -- the number of a name among those of the entities
 abbrev pub number_in : List Entity → List ℕ → ℕ
 number_in entities name = position_or_len (same_text name) (firsts same_text (names_in entities))
+
+-- those of the names of the entities themselves
+abbrev pub numbers_of : List Entity → List ℕ
+numbers_of entities = map (λ (entity : Entity). number_in entities entity.name) entities

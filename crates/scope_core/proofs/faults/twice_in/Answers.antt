@@ -5,7 +5,9 @@ use Rattle.std.proofs.lemmas.List.{with_items_is}
 use Rattle.scope_core.specs.ScopeFaults.{twice}
 use Rattle.scope_core.specs.inside.Rounds.{last_types}
 use Rattle.scope_core.specs.inside.Noting.{NotesDeclared}
-use Rattle.scope_tables.specs.inside.Owning.{number_in}
+use Rattle.case_table.specs.Lists.{firsts}
+use Rattle.scope_tables.specs.inside.Owning.{same_text, names_in, number_in}
+use Rattle.scope_tables.proofs.OwnLaws.{number-read}
 use Rattle.scope_core.proofs.TwiceLaws.{AreNoted, noted-step, noted-all, place-there, taken-there}
 use Rattle.scope_core.proofs.faults.twice_in.Goals as goal
 use Rattle.scope_core.proofs.faults.twice_in.Goals.{in-Some+in-Some-taken+in_ok-note_declared}
@@ -30,14 +32,16 @@ loop-index-preserved c world pieces own are there number places table_at =
           ap (λ l. slice_get l i) (sym c.list-entities.ensures)
           ∙ slice_get_read c.list-entities.result.now (length c.list-entities.result.now) i entity refl
           c.loop-index-test.true c.index-entities-index.is in
-          let named : w.number-name.result ≡ number_in table.own entity.name = w.number-name.ensures in
+          let named : w.number_at-name.result ≡ number_in table.own entity.name =
+          w.number_at-name.ensures
+          ∙ number-read table.own i (length (firsts same_text (names_in table.own))) entity held in
           let notes : NotesDeclared (number_in table.own entity.name) taken entity.sort (twice c.args.number at)
           c.loop-index.least c.loop-index.kinds.items c.loop-index.seen.keys w.note_declared.new.least
           w.note_declared.new.kinds w.note_declared.new.seen.keys =
           subst (λ n. NotesDeclared n taken entity.sort (twice c.args.number at)
           c.loop-index.least c.loop-index.kinds.items c.loop-index.seen.keys w.note_declared.new.least
           w.note_declared.new.kinds w.note_declared.new.seen.keys) named
-          (subst (λ l. NotesDeclared w.number-name.result taken entity.sort (twice c.args.number at)
+          (subst (λ l. NotesDeclared w.number_at-name.result taken entity.sort (twice c.args.number at)
           c.loop-index.least l c.loop-index.seen.keys w.note_declared.new.least
           w.note_declared.new.kinds w.note_declared.new.seen.keys) w.deref_mut.ensures.value
           w.in_ok-note_declared.ensures) in

@@ -6,15 +6,15 @@ use Rattle.scope_tables.proofs.own.Own.indices.Goals as goal
 pub returns-in-Some : goal.returns-in-Some
 returns-in-Some c =
     rw (c.self.view_is) at
-    (c.deref.ensures.value ∙ ap (λ list. list.items) c.index.ensures
+    (c.deref.ensures ∙ ap (λ list. list.items) c.index.ensures
     ∙ sym (get_or-map (λ list. list.items) c.self.inside.lists.items c.in-Some.number c.index.result.now)
     ∙ found-list c.self.inside.entities.items c.self.inside.names.keys
     (map (λ list. list.items) c.self.inside.lists.items) c.args.name.now c.in-Some.number c.index.result.now.items
-    c.self.invariant (sym c.get_index_of.ensures.index ∙ c.in-Some.is))
+    c.self.invariant.0 (sym c.get_index_of.ensures.index ∙ c.in-Some.is))
 
 pub returns-in-None : goal.returns-in-None
 returns-in-None c =
     rw (c.self.view_is) at
     (missed-list c.self.inside.entities.items c.self.inside.names.keys
-    (map (λ list. list.items) c.self.inside.lists.items) c.args.name.now c.self.invariant
+    (map (λ list. list.items) c.self.inside.lists.items) c.args.name.now c.self.invariant.0
     (sym c.get_index_of.ensures.found ∙ ap is_some c.in-None.is))

@@ -9,4 +9,4 @@ returns-in-None c =
     rw (c.self.view_is) at
     (c.len.ensures.len
     ∙ number-none (same_text c.args.name.now) c.self.inside.names.keys (sym c.get_index_of.ensures.index ∙ c.in-None.is)
-    ∙ ap (position_or_len (same_text c.args.name.now)) c.self.invariant.names_are)
+    ∙ ap (position_or_len (same_text c.args.name.now)) c.self.invariant.0.names_are)
